@@ -13,8 +13,8 @@ use Rattle.entry.specs.declared.Entry.{Entry}
 use Rattle.entry.specs.declared.refusals.Refusal.the-variants as why
 use Rattle.feed.specs.declared.whole.WriteFault.{WriteFault}
 use Rattle.feed.specs.declared.whole.WriteFault.the-variants.{Refused}
-use Rattle.feed.specs.Layout.{kindOf, size, fits}
-use Rattle.feed.specs.Reading.{longest}
+use Rattle.layout.specs.Layout.{kindOf, size, fits}
+use Rattle.layout.specs.Reading.{longest}
 use Rattle.feed.specs.Appending.{appended}
 
 abbrev Answer : Type 0

@@ -14,7 +14,7 @@ use mathlib.Core.Logic.{_⊎_, inl, inr}
 use borrow.Author.Tests.{ltb-true, leb-true, lt-ltb, le-ltb}
 use Rattle.std.proofs.shelf.Lists.{drop-more, take-more, take-more-set, length-take-le, drop-drop}
 use Rattle.std.proofs.shelf.Tests.{and-parts, and-from, and-left}
-use Rattle.feed.specs.Bits.{total, fit, packed}
+use Rattle.layout.specs.Bits.{total, fit, packed}
 use Rattle.feed.specs.Cursor.{narrow}
 
 module _ (ws : List ℕ) (i : ℕ) (lt : i < length ws) where

@@ -1,10 +1,4 @@
-pub mod Numbers
-pub mod EachKind
 pub mod Fields
 pub mod Shifts
-pub mod Written
-pub mod Decoded
-pub mod Back
-pub mod Lawful
-pub mod Feeds
+pub mod Finished
 pub mod Appended

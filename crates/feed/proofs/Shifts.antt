@@ -11,7 +11,7 @@ use lib.Pow.{shr-lt, pow-add, shl-lt, shl-exact, shr-shr, high, low, mod-pow-add
 use lib.Arith.{digits-lt, digits-div, digits-mod}
 use Rattle.std.proofs.shelf.Bits.{and-mask, or-shifted, one-shl, mod-below}
 use Rattle.std.proofs.shelf.Lists.{take-more, take-more-set}
-use Rattle.feed.specs.Bits.{bytes}
+use Rattle.layout.specs.Bits.{bytes}
 use Rattle.feed.specs.Cursor.{Wrote}
 
 -- `acc << width | value`

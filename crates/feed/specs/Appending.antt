@@ -10,8 +10,8 @@ use Rattle.entry.specs.declared.Entry.{Entry}
 use Rattle.entry.specs.declared.refusals.Refusal.the-variants as why
 use Rattle.feed.specs.declared.whole.WriteFault.{WriteFault}
 use Rattle.feed.specs.declared.whole.WriteFault.the-variants.{Refused}
-use Rattle.feed.specs.Layout.{kindOf, size, fits}
-use Rattle.feed.specs.Reading.{longest}
+use Rattle.layout.specs.Layout.{kindOf, size, fits}
+use Rattle.layout.specs.Reading.{longest}
 
 -- a figure that is too wide is refused first, then a feed that would be too long to be read
 abbrev pub appended : List ℕ → Entry → Result (Unit {0}) WriteFault

@@ -5,7 +5,7 @@ use mathlib.Core.Bool.{Bool, true, _&&_}
 use mathlib.Core.List.{List, [], _∷_}
 use lib.Dec.{leb}
 use lib.ListN.{take}
-use Rattle.feed.specs.Bits.{bytes}
+use Rattle.layout.specs.Bits.{bytes}
 
 -- the bits of n are written: all but the last `held` stand in the first `at` bytes, and `rest` has those
 abbrev pub Wrote : List ℕ → ℕ → ℕ → ℕ → ℕ → Type 0

@@ -3,7 +3,7 @@ ghost use mathlib.Core.Path.{_≡_};
 ghost use Prim.Native.Nat.{ℕ, _+_, _*_, _^_, _<_, _≤_};
 ghost use mathlib.Core.Bool.{true};
 ghost use lib.ListN.{length, drop};
-ghost use Rattle.feed.specs.Bits.{total, fit, packed};
+ghost use Rattle.layout.specs.Bits.{total, fit, packed};
 ghost use Rattle.feed.specs.Cursor.{Wrote, narrow};
 
 // Where the writer stands: whole bytes written, and the bits of the byte that is not whole yet.

@@ -1,7 +1,5 @@
-//! The feed: entries as bit-packed records.
+//! The feed: entries as bit-packed records, written and read.
 mod cursor;
-pub mod examples;
-mod kinds;
 pub mod reader;
 pub mod record;
 pub mod whole;

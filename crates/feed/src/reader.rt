@@ -5,12 +5,12 @@ ghost use Prim.Native.Nat.{_≤_};
 ghost use denote.Ref.{now as there};
 ghost use lib.ListN.{length};
 ghost use Rattle.std.specs.Results.{Cases};
-ghost use Rattle.feed.specs.Laws.{Faithful};
-ghost use Rattle.feed.specs.Reading.{taken, next, placeAfter, seenAfter};
-use super::kinds::Kind;
+ghost use Rattle.layout.specs.Laws.{Faithful};
+ghost use Rattle.layout.specs.Reading.{taken, next, placeAfter, seenAfter};
 use super::record::decode;
 use entry::Entry;
 use entry::refusals::Refusal;
+use layout::kinds::Kind;
 
 // The longest feed that is taken, in bytes.
 pub(crate) const LONGEST: usize = 65_536;

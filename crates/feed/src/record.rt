@@ -4,20 +4,20 @@ ghost use Prim.Native.Nat.{ℕ, _+_, _*_, _≤_, _<_};
 ghost use Rattle.std.specs.Vec.{made};
 ghost use Rattle.std.specs.declared.result.Result.the-variants.{Ok};
 ghost use lib.ListN.{length};
-ghost use Rattle.feed.specs.Bits.{AreBytes, fields};
-ghost use Rattle.feed.specs.Layout.{code as codeOf, widths as widthsOf, sideOf, entryOf, size as sizeOf};
-ghost use Rattle.feed.specs.Reading.{firstRecord};
-ghost use Rattle.feed.specs.Writing.{answerWith, outputWith, answer, output};
+ghost use Rattle.layout.specs.Bits.{AreBytes, fields};
+ghost use Rattle.layout.specs.Layout.{code as codeOf, widths as widthsOf, sideOf, entryOf, size as sizeOf};
+ghost use Rattle.layout.specs.Reading.{firstRecord};
+ghost use Rattle.layout.specs.Writing.{answerWith, outputWith, answer, output};
 use super::cursor::Cursor;
 use super::cursor::all_fit;
 use super::cursor::put;
 use super::cursor::put_all;
-use super::kinds::Kind;
 use super::words::bits;
 use entry::Entry;
 use entry::Params;
 use entry::Side;
 use entry::refusals::Refusal;
+use layout::kinds::Kind;
 
 fn side_of(bit: u32) -> Side
     ensures answer { λ r. ⌜ r ≡ sideOf bit ⌝ }

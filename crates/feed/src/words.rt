@@ -2,7 +2,7 @@
 ghost use mathlib.Core.Path.{_≡_};
 ghost use Prim.Native.Nat.{_+_, _*_, _≤_};
 ghost use lib.ListN.{length};
-ghost use Rattle.feed.specs.Bits.{AreBytes, field};
+ghost use Rattle.layout.specs.Bits.{AreBytes, field};
 
 // The number in `width` bits from bit `from` on.
 pub fn bits(src: &[u8], from: usize, width: usize) -> u32

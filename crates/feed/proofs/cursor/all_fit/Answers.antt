@@ -5,7 +5,7 @@ use mathlib.Core.List.{List}
 use native.Mathlib.Omega.{arith}
 use lib.ListN.{length, drop, getD}
 use Rattle.std.proofs.shelf.Lists.{at-drop-all}
-use Rattle.feed.specs.Bits.{fit}
+use Rattle.layout.specs.Bits.{fit}
 use Rattle.feed.proofs.Fields.{narrow-more, fit-more, wide, slim}
 use Rattle.feed.proofs.cursor.all_fit.Needs as need
 

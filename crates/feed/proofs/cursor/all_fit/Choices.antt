@@ -1,7 +1,7 @@
 use mathlib.Core.Path.{_≡_}
 use mathlib.Core.Bool.{true}
 use lib.ListN.{drop}
-use Rattle.feed.specs.Bits.{fit}
+use Rattle.layout.specs.Bits.{fit}
 use Rattle.feed.specs.Cursor.{narrow}
 use Rattle.feed.proofs.cursor.all_fit.Given as given
 

@@ -4,7 +4,7 @@ use mathlib.Core.List.{List}
 use native.Mathlib.Omega.{arith}
 use lib.ListN.{length, drop, getD}
 use Rattle.std.proofs.shelf.Lists.{drop-drop, at-drop-all}
-use Rattle.feed.specs.Bits.{total, packed}
+use Rattle.layout.specs.Bits.{total, packed}
 use Rattle.feed.specs.Cursor.{Wrote}
 use Rattle.feed.proofs.Fields.{total-more, narrow-more, fit-parts, packed-more, drop-further}
 use Rattle.feed.proofs.cursor.put_all.Needs as need

@@ -2,7 +2,7 @@ use Prim.Native.Nat.{ℕ, _+_, _*_, _^_, _<_}
 use mathlib.Core.Path.{_≡_}
 use mathlib.Core.Bool.{true}
 use lib.ListN.{drop}
-use Rattle.feed.specs.Bits.{total, fit, packed}
+use Rattle.layout.specs.Bits.{total, fit, packed}
 use Rattle.feed.specs.Cursor.{Wrote, narrow}
 use Rattle.feed.proofs.cursor.put_all.Given as given
 

@@ -3,9 +3,9 @@ use mathlib.Core.Path.{_≡_, _∙_, ap}
 use native.Mathlib.Omega.{arith}
 use lib.ListN.{length, take}
 use Rattle.std.proofs.shelf.Lists.{length-take}
-use Rattle.feed.specs.Layout.{size}
-use Rattle.feed.proofs.EachKind.{total-le}
-use Rattle.feed.proofs.Numbers.{bytes-take}
+use Rattle.layout.specs.Layout.{size}
+use Rattle.layout.proofs.EachKind.{total-le}
+use Rattle.layout.proofs.Numbers.{bytes-take}
 use Rattle.feed.proofs.record.decode.Needs as need
 
 pub bits-requires-3 : need.bits-requires-3

@@ -1,4 +1,4 @@
-use Rattle.feed.proofs.Lawful.{output-read}
+use Rattle.layout.proofs.Lawful.{output-read}
 use Rattle.feed.proofs.record.encode.Needs as need
 
 pub returns : need.returns

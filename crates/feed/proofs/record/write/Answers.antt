@@ -6,12 +6,13 @@ use native.Mathlib.Nat.{mod-eq-of-lt}
 use native.Mathlib.Omega.{arith}
 use lib.ListN.{length, drop}
 use Rattle.std.specs.declared.result.Result.the-variants.{Ok}
-use Rattle.feed.specs.Bits.{total, fit, packed}
+use Rattle.layout.specs.Bits.{total, fit, packed}
 use Rattle.feed.specs.Cursor.{Wrote}
-use Rattle.feed.specs.Layout.{code, widths, bytesFor}
-use Rattle.feed.proofs.EachKind.{code-lt}
+use Rattle.layout.specs.Layout.{code, widths, bytesFor}
+use Rattle.layout.proofs.EachKind.{code-lt}
 use Rattle.feed.proofs.Fields.{drop-further}
-use Rattle.feed.proofs.Written.{too-wide, too-short, accepted, finished}
+use Rattle.layout.proofs.Written.{too-wide, too-short, accepted}
+use Rattle.feed.proofs.Finished.{finished}
 use Rattle.feed.proofs.record.write.Needs as need
 
 -- what `all_fit` answered is the test over the layout's widths

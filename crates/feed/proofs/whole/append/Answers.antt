@@ -8,9 +8,9 @@ use Rattle.std.specs.Of.Vec.{vec-items}
 use Rattle.std.specs.declared.result.Result.the-variants.{Err}
 use Rattle.entry.specs.declared.refusals.Refusal.{Refusal}
 use Rattle.feed.specs.declared.whole.WriteFault.the-variants.{Refused}
-use Rattle.feed.specs.Layout.{recordOf}
-use Rattle.feed.proofs.Feeds.{holds-more}
-use Rattle.feed.proofs.Written.{refused-there, written-there}
+use Rattle.layout.specs.Layout.{recordOf}
+use Rattle.layout.proofs.Feeds.{holds-more}
+use Rattle.layout.proofs.Written.{refused-there, written-there}
 use Rattle.feed.proofs.Appended.{too-wide-behind, too-long-behind, goes-behind}
 use Rattle.feed.proofs.whole.append.Needs as need
 

@@ -7,8 +7,8 @@ use Rattle.std.specs.declared.option.Option.{Option}
 use Rattle.std.specs.declared.option.Option.the-variants.{Some, None}
 use Rattle.entry.specs.declared.Entry.{Entry}
 use Rattle.std.specs.declared.result.Result.the-variants.{Ok, Err}
-use Rattle.feed.specs.Reading.{next, taken, placeAfter, seenAfter}
-use Rattle.feed.proofs.Feeds.{gives-more, gives-all, whole-back, one-whole}
+use Rattle.layout.specs.Reading.{next, taken, placeAfter, seenAfter}
+use Rattle.layout.proofs.Feeds.{gives-more, gives-all, whole-back, one-whole}
 use Rattle.feed.proofs.whole.read.Needs as need
 
 pub loop-found-again : need.loop-found-again

@@ -8,7 +8,7 @@ use Rattle.std.specs.Of.Vec.{vec-items}
 use Rattle.std.specs.declared.option.Option.{Option}
 use Rattle.entry.specs.declared.Entry.{Entry}
 use Rattle.entry.specs.declared.refusals.Refusal.{Refusal}
-use Rattle.feed.specs.Laws.{Gives}
+use Rattle.layout.specs.Laws.{Gives}
 use Rattle.feed.proofs.whole.read.Given as given
 
 abbrev pub Inv-loop-found : given.InvT-loop-found

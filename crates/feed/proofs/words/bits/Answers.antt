@@ -6,8 +6,8 @@ use lib.Bits.{bitAnd, bitOr}
 use lib.Pow.{pow-pos, pow-mono}
 use native.Mathlib.Nat.{lt-of-lt-of-le}
 use Rattle.std.proofs.shelf.Bits.{and-mask, or-shifted, one-shl, mod-below, shl-whole}
-use Rattle.feed.specs.Bits.{spelt, AreBytes}
-use Rattle.feed.proofs.Numbers.{spelt-more, word-more, field-in}
+use Rattle.layout.specs.Bits.{spelt, AreBytes}
+use Rattle.layout.proofs.Numbers.{spelt-more, word-more, field-in}
 use Rattle.feed.proofs.words.bits.Needs as need
 
 pub loop-i-again : need.loop-i-again

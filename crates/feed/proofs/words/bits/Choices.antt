@@ -2,7 +2,7 @@
 use Prim.Native.Nat.{_-_, _*_, _%_, _^_}
 use mathlib.Core.Path.{_≡_}
 use lib.ListN.{take}
-use Rattle.feed.specs.Bits.{spelt}
+use Rattle.layout.specs.Bits.{spelt}
 use Rattle.feed.proofs.words.bits.Given as given
 
 abbrev pub Inv-loop-i : given.InvT-loop-i

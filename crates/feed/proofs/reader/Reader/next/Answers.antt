@@ -4,10 +4,10 @@ use native.Mathlib.Omega.{arith}
 use lib.ListN.{length}
 use Rattle.std.proofs.shelf.Lists.{take-rest}
 use Rattle.std.specs.declared.result.Result.the-variants.{Ok, Err}
-use Rattle.feed.specs.Layout.{kindOf, size}
-use Rattle.feed.proofs.EachKind.{some-bytes}
-use Rattle.feed.proofs.Decoded.{read-within, next-by}
-use Rattle.feed.proofs.Feeds.{faithful}
+use Rattle.layout.specs.Layout.{kindOf, size}
+use Rattle.layout.proofs.EachKind.{some-bytes}
+use Rattle.layout.proofs.Decoded.{read-within, next-by}
+use Rattle.layout.proofs.Feeds.{faithful}
 use Rattle.feed.proofs.reader.Reader.next.Needs as need
 
 pub ghost-self : need.ghost-self

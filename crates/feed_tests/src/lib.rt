@@ -1,0 +1,204 @@
+//! Tests of the feed: worked records, smallest and largest figures, every truncation, every flipped bit, the longest feed.
+#[cfg(test)]
+mod tests {
+    use entry::Entry;
+    use entry::EntryDebug;
+    use entry::EntryPartialEq;
+    use entry::Params;
+    use entry::Side;
+    use entry::refusals::Refusal;
+    use feed::reader::Reader;
+    use feed::record::encode;
+    use feed::whole::WriteFault;
+    use feed::whole::append;
+    use feed::whole::read;
+    use std::alloc::Global;
+    use std::test::*;
+
+    // The largest figure of 30 bits.
+    const WIDE: u32 = 1_073_741_823;
+
+    fn params(figure: u32) -> Params {
+        Params {
+            sp: figure,
+            l: figure,
+            ur: figure,
+            lr: figure,
+        }
+    }
+
+    // An entry of each kind, in the order of their codes, with these figures.
+    fn each(time: u32, side: Side, mode: u8, session: u8, price: u32, quantity: u32) -> [Entry; 7] {
+        [
+            Entry::Clock { time },
+            Entry::Post {
+                time,
+                side,
+                mode,
+                price,
+            },
+            Entry::Leave { time, side, price },
+            Entry::Trade {
+                time,
+                mode,
+                price,
+                quantity,
+            },
+            Entry::Parameters {
+                time,
+                params: params(price),
+            },
+            Entry::Reference {
+                time,
+                session,
+                price,
+            },
+            Entry::Ruling { time, price },
+        ]
+    }
+
+    // Entries with some bits set and some not in each field.
+    fn samples() -> [Entry; 7] {
+        each(36_000_000, Side::Sell, 1, 2, 1_000_000, 250)
+    }
+
+    // Where each record of the samples starts, in bytes, and where the last one ends.
+    const STARTS: [usize; 8] = [0, 5, 14, 23, 35, 55, 64, 72];
+
+    // The bits of each record before its spare ones.
+    const BITS: [usize; 7] = [34, 67, 65, 90, 154, 67, 64];
+
+    fn feed_of(heap: Global, entries: &[Entry]) -> Result<Vec<u8>, Fail> {
+        let mut feed = Vec::new(heap);
+        for entry in entries {
+            match append(&mut feed, *entry) {
+                Ok(()) => {}
+                Err(WriteFault::Refused(refusal)) => {
+                    check_eq(refusal.number(), 0)?;
+                }
+                Err(WriteFault::NoMemory) => check(false)?,
+            }
+        }
+        Ok(feed)
+    }
+
+    // The number of a refusal and the place told with it; 0 for none.
+    fn told(fault: Option<Refusal>) -> (u8, Option<(usize, usize)>) {
+        match fault {
+            Some(refusal) => (refusal.number(), refusal.place()),
+            None => (0, None),
+        }
+    }
+
+    // The feed gives these entries, and then this fault or its end.
+    fn gives(
+        heap: Global,
+        feed: &[u8],
+        entries: &[Entry],
+        fault: Option<Refusal>,
+    ) -> Result<(), Fail> {
+        let readings = read(heap, feed)?;
+        check(told(readings.fault) == told(fault))?;
+        check_eq(readings.entries.len(), entries.len())?;
+        for (got, wanted) in readings.entries.iter().zip(entries.iter()) {
+            check(*got == *wanted)?;
+        }
+        Ok(())
+    }
+
+    #[test]
+    fn worked_record() -> Result<(), Fail> {
+        let mut out = [0xFF; 10];
+        let entry = Entry::Post {
+            time: 36_000_000,
+            side: Side::Buy,
+            mode: 0,
+            price: 1_000_000,
+        };
+        check(encode(entry, &mut out).ok() == Some(9))?;
+        check_eq(
+            out,
+            [0x10, 0x89, 0x54, 0x40, 0x00, 0x01, 0xE8, 0x48, 0x00, 0xFF],
+        )
+    }
+
+    #[test]
+    fn smallest_and_largest(rt: LibcRuntime) -> Result<(), Fail> {
+        let heap = rt.alloc();
+        for entries in [
+            samples(),
+            each(0, Side::Buy, 0, 0, 0, 0),
+            each(WIDE, Side::Sell, 3, 7, WIDE, 16_777_215),
+        ] {
+            let feed = feed_of(heap, &entries)?;
+            check_eq(feed.len(), 72)?;
+            gives(heap, feed.as_slice(), &entries, None)?;
+        }
+        Ok(())
+    }
+
+    #[test]
+    fn wider_than_its_field() -> Result<(), Fail> {
+        let over = each(WIDE + 1, Side::Buy, 0, 0, 0, 0);
+        let price = each(0, Side::Buy, 0, 0, WIDE + 1, 0);
+        let code = each(0, Side::Buy, 4, 8, 0, 16_777_216);
+        for (i, entry) in over.iter()
+            .chain(price.iter())
+            .chain(code.iter())
+            .enumerate() {
+            // A clock has no price; the clock, leave, parameters and ruling have no code and no quantity.
+            let fits = matches!(i, 7 | 14 | 16 | 18 | 20);
+            let mut out = [0xFF; 20];
+            let answer = encode(*entry, &mut out);
+            check(answer.is_ok() == fits)?;
+            if let Err(refusal) = answer {
+                check_eq(refusal.number(), 1)?;
+                check_eq(out, [0xFF; 20])?;
+            }
+        }
+        Ok(())
+    }
+
+    #[test]
+    fn output_one_byte_short() -> Result<(), Fail> {
+        for entry in samples() {
+            let mut out = [0xFF; 20];
+            let size = encode(entry, &mut out).ok().unwrap_or(0);
+            check(0 < size && size <= 20)?;
+            let mut short = [0xFF; 20];
+            match encode(entry, &mut short[0..size - 1]) {
+                Ok(_) => check(false)?,
+                Err(refusal) => check_eq(refusal.number(), 18)?,
+            }
+            check_eq(short, [0xFF; 20])?;
+            check(encode(entry, &mut short[0..size]).ok() == Some(size))?;
+            check_eq(short, out)?;
+        }
+        Ok(())
+    }
+
+    #[test]
+    fn every_truncation(rt: LibcRuntime) -> Result<(), Fail> {
+        let heap = rt.alloc();
+        let entries = samples();
+        let feed = feed_of(heap, &entries)?;
+        check(feed.len() == 72)?;
+        for (k, start) in STARTS.iter().enumerate() {
+            for n in *start..feed.len() + 1 {
+                if k + 1 < 8 && n >= STARTS[(k + 1) % 8] {
+                    break;
+                }
+                let fault = if n == *start {
+                    None
+                } else {
+                    Some(Refusal::FeedEnds {
+                        record: k + 1,
+                        bit: 8 * *start,
+                    })
+                };
+                gives(heap, &feed.as_slice()[0..n], &entries[0..k], fault)?;
+            }
+        }
+        Ok(())
+    }
+}
