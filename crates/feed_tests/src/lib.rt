@@ -201,4 +201,98 @@ mod tests {
         }
         Ok(())
     }
+
+    // A feed with one bit changed, which lies so many bits into a record of the samples.
+    fn flipped(
+        heap: Global,
+        feed: &[u8],
+        record: usize,
+        bit: usize,
+        entries: &[Entry],
+    ) -> Result<(), Fail> {
+        check(record < 7 && bit < 160 && entries.len() == 7)?;
+        let start = 8 * STARTS[record];
+        let mut bytes = feed.to_vec(heap)?;
+        if let Some(byte) = bytes.get_mut((start + bit) / 8) {
+            *byte ^= 0x80 >> ((start + bit) % 8);
+        }
+        if bit >= BITS[record] {
+            let fault = Refusal::SpareBitSet {
+                record: record + 1,
+                bit: start.saturating_add(BITS[record]),
+            };
+            return gives(heap, bytes.as_slice(), &entries[0..record], Some(fault));
+        }
+        let readings = read(heap, bytes.as_slice())?;
+        if bit >= 4 {
+            check(readings.fault.is_none() && readings.entries.len() == 7)?;
+            for (i, (got, was)) in readings.entries.iter().zip(entries.iter()).enumerate() {
+                check((*got == *was) == (i != record))?;
+            }
+        }
+        if readings.fault.is_none() {
+            let again = feed_of(heap, readings.entries.as_slice())?;
+            check(again.as_slice() == bytes.as_slice())?;
+        }
+        Ok(())
+    }
+
+    #[test]
+    fn every_flipped_bit(rt: LibcRuntime) -> Result<(), Fail> {
+        let heap = rt.alloc();
+        let entries = samples();
+        let feed = feed_of(heap, &entries)?;
+        for record in 0..7usize {
+            for bit in 0..8 * (STARTS[record + 1] - STARTS[record]) {
+                flipped(heap, feed.as_slice(), record, bit, &entries)?;
+            }
+        }
+        Ok(())
+    }
+
+    #[test]
+    fn empty_feed() -> Result<(), Fail> {
+        let mut reader = Reader::new();
+        for _ in 0..3 {
+            check(matches!(reader.next(), Ok(None)))?;
+        }
+        check(reader.take(&[]).is_ok())?;
+        check(matches!(reader.next(), Ok(None)))
+    }
+
+    #[test]
+    fn a_fault_is_told_again() -> Result<(), Fail> {
+        let feed = [0x00, 0x89, 0x59, 0x22, 0x00, 0x70];
+        let mut reader = Reader::new();
+        check(reader.take(&feed).is_ok())?;
+        check(matches!(reader.next(), Ok(Some(Entry::Clock { time: 36_005_000 }))))?;
+        for _ in 0..3 {
+            match reader.next() {
+                Ok(_) => check(false)?,
+                Err(refusal) => check(told(Some(refusal)) == (15, Some((2, 40))))?,
+            }
+        }
+        Ok(())
+    }
+
+    #[test]
+    fn longest_feed(rt: LibcRuntime) -> Result<(), Fail> {
+        let heap = rt.alloc();
+        let ruling = Entry::Ruling { time: 1, price: 2 };
+        let mut feed = Vec::new(heap);
+        for _ in 0..8_192 {
+            check(matches!(append(&mut feed, ruling), Ok(())))?;
+        }
+        check_eq(feed.len(), 65_536)?;
+        let readings = read(heap, feed.as_slice())?;
+        check(readings.fault.is_none())?;
+        check_eq(readings.entries.len(), 8_192)?;
+        match append(&mut feed, ruling) {
+            Err(WriteFault::Refused(refusal)) => check_eq(refusal.number(), 17)?,
+            _ => check(false)?,
+        }
+        check_eq(feed.len(), 65_536)?;
+        feed.push(0)?;
+        gives(heap, feed.as_slice(), &[], Some(Refusal::FeedTooLong))
+    }
 }
