@@ -1,0 +1,4 @@
+pub mod LinesText
+pub mod Sofar
+pub mod Flaws
+pub mod ByNumber

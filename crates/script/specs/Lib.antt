@@ -1,0 +1,4 @@
+pub mod Spelling
+pub mod Print
+pub mod Commands
+pub mod Faults

@@ -1,0 +1,4 @@
+pub mod Cuts
+pub mod Compared
+pub mod Figures
+pub mod Split
