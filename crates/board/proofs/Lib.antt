@@ -1,0 +1,2 @@
+-- Lemmas on the levels of a board.
+pub mod Ordered
