@@ -1,0 +1,2 @@
+-- The lemmas on the limits.
+pub mod Joined

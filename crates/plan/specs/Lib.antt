@@ -1,0 +1,6 @@
+-- What the contracts of the plans cite.
+pub mod Sessions
+pub mod Hours
+pub mod Fixed
+pub mod Windows
+pub mod Announced
