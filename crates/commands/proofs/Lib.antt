@@ -1,3 +1,4 @@
+-- A listing and an encoding, step by step.
 pub mod LinesText
 pub mod Sofar
 pub mod Flaws

@@ -1,6 +1,6 @@
 //! The static and the dynamic limits of a security: exact figures, rounded inward. Any figures get an answer.
 ghost use mathlib.Core.Path.{_≡_};
-ghost use Prim.Native.Nat.{ℕ, _≤_};
+ghost use Prim.Native.Nat.{_≤_};
 ghost use Rattle.limits.specs.Rounded.{staticLimits, dynamicLimits, tightened, boundsOf};
 ghost use Rattle.limits.specs.Exact.{Least, Greatest, FromStaticLower, ToStaticUpper, FromDynamicLower, ToDynamicUpper};
 ghost use Rattle.limits.specs.Worked.{Worked};
@@ -14,7 +14,7 @@ const TIGHT: u32 = 100;
 
 /// A bounded window as the limits read it: its session's code, its K in thousandths, the session's LP, and the days left in
 /// each direction.
-#[derive(Clone, Copy, PartialEq, Eq, Debug)]
+#[derive(Clone, Copy)]
 pub struct BoundedWindow {
     pub session: u8,
     pub k: u32,

@@ -1,7 +1,5 @@
 // The fixed plan: the usual hours of a trading day. Calendar days before its last one have the weekend session alone.
 ghost use mathlib.Core.Path.{_≡_};
-ghost use mathlib.Core.Bool.{Bool};
-ghost use Prim.Native.Nat.{ℕ};
 ghost use Rattle.plan.specs.Fixed.{fixedAnswer, fixedHours, rowHolds, rowSlot, rowsAt};
 use crate::Plan;
 use crate::slots::Session;

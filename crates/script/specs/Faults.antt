@@ -1,6 +1,5 @@
 -- What is printed of a line that cannot be read.
-use mathlib.Core.List.{List, [], _∷_, _++_}
-use Prim.Native.Nat.{ℕ}
+use mathlib.Core.List.{_++_}
 use lib.Chars.{codes}
 use Rattle.std.specs.Written.{decimal}
 use Rattle.script.specs.declared.faults.LineFault.{LineFault}

@@ -1,3 +1,4 @@
+-- How lines are spelt and printed.
 pub mod Spelling
 pub mod Print
 pub mod Commands

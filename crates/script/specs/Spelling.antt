@@ -1,5 +1,5 @@
 -- How each entry is spelt: its words in order, each a name or a figure.
-use mathlib.Core.List.{List, [], _∷_, _++_}
+use mathlib.Core.List.{List, [], _∷_}
 use Prim.Native.Nat.{ℕ, _^_, _<_}
 use lib.Chars.{codes}
 use Rattle.entry.specs.declared.Entry.{Entry}

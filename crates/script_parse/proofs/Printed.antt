@@ -1,11 +1,10 @@
 -- A printed entry is read as the same entry.
-use mathlib.Core.Path.{_≡_, refl, sym, ap, _∙_}
-use mathlib.Core.Bool.{Bool, true, false, cond}
+use mathlib.Core.Path.{_≡_, refl, ap, _∙_}
+use mathlib.Core.Bool.{true, cond}
 use mathlib.Core.List.{List, [], _∷_, map}
 use Prim.Native.Nat.{ℕ, _-_, _^_, _<_, _≤_}
 use native.Mathlib.Omega.{arith}
 use borrow.Author.Tests.{le-leb}
-use lib.Dec.{leb}
 use lib.ListN.{length}
 use Rattle.std.specs.declared.option.Option.{Option}
 use Rattle.std.specs.declared.option.Option.the-variants.{Some, None}
@@ -21,11 +20,11 @@ use Rattle.script.specs.declared.command.Command.{Command}
 use Rattle.script.specs.declared.command.Command.the-variants as asks
 use Rattle.script.specs.Spelling.{Bytes, Part, name, figure, code, side-text, entry-parts, PartsFit, Fits}
 use Rattle.script.specs.Print.{part-text, entry-text}
-use Rattle.script_words.specs.Reading.{Read, number, upTo, before, figureTo, side, andThen}
-use Rattle.script_parse.specs.Entries.{whole, entryOfWords, entryOf, entryParsed}
+use Rattle.script_words.specs.Reading.{number, upTo, before, figureTo, side}
+use Rattle.script_parse.specs.Entries.{entryOfWords, entryOf, entryParsed}
 use Rattle.script.specs.Commands.{entryIn}
 use Rattle.script_words.specs.Reading as read
-use Rattle.script_words.specs.Words.{wordsOf, uncommented}
+use Rattle.script_words.specs.Words.{wordsOf}
 use Rattle.script_words.proofs.Figures.{own, number-of}
 use Rattle.script_parse.proofs.Solid.{isWord, solid, digits-solid, AllWords, uncommented-spaced, words-spaced}
 

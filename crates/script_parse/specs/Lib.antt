@@ -1,1 +1,2 @@
+-- What the contracts of a line that is read cite.
 pub mod Entries

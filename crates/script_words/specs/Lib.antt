@@ -1,3 +1,4 @@
+-- What the contracts of lines and words cite.
 pub mod Words
 pub mod Reading
 pub mod Lines

@@ -1,7 +1,6 @@
 -- The lines of a script.
 use mathlib.Core.Bool.{cond}
 use mathlib.Core.List.{List, [], _∷_}
-use Prim.Native.Nat.{ℕ}
 use lib.Dec.{eqb}
 use Rattle.script_words.specs.declared.lines.Lines.{Lines}
 use Rattle.script.specs.Spelling.{Bytes}

@@ -1,8 +1,7 @@
 // The words of a line, taken one after another.
 ghost use mathlib.Core.Path.{_≡_};
 ghost use mathlib.Core.List.{[], _∷_};
-ghost use Prim.Native.Nat.{_-_, _^_};
-ghost use lib.Chars.{codes};
+ghost use Prim.Native.Nat.{_-_};
 ghost use Rattle.std.specs.Options.{Cases as BySome};
 ghost use Rattle.std.specs.Results.{Cases};
 ghost use Rattle.script_words.specs.Words.{isBlank, uncommented, wordsOf, left, first as before, Run};

@@ -1,9 +1,7 @@
 // The making of an announced plan, its windows, and its answers.
 ghost use mathlib.Core.Path.{_≡_};
-ghost use mathlib.Core.Bool.{true};
-ghost use mathlib.Core.List.{List, []};
-ghost use Prim.Native.Nat.{ℕ, _<_};
-ghost use Rattle.plan.specs.Hours.{inOrder, slotAt};
+ghost use mathlib.Core.List.{[]};
+ghost use Prim.Native.Nat.{_<_};
 ghost use Rattle.plan.specs.Windows.{lastBy, overlapsAny};
 ghost use Rattle.plan.specs.Announced.{announcedHours, windowOf, addAnswer, addAfter, windowAnswer, windowAfter};
 use crate::Plan;

@@ -2,7 +2,6 @@
 use mathlib.Core.Path.{_≡_}
 use borrow.Author.Needs.{needs}
 use Rattle.std.specs.declared.option.Option.the-variants.{Some}
-use Rattle.std.specs.declared.result.Result.{Result}
 use Rattle.std.specs.declared.result.Result.the-variants.{Ok}
 use Rattle.script.specs.declared.faults.LineFault.{LineFault}
 use Rattle.script.specs.Commands.{entryIn}
