@@ -23,4 +23,4 @@ module _ {X Y : Type 0} (f : X → Y) where
 
 -- no command has another number of words
 pub unknown-by-number : (words : List (List ℕ)) → (length words ≡ 1 → ⊥) → (length words ≡ 2 → ⊥) → (length words ≡ 3 → ⊥) → Asks words Unknown
-unknown-by-number words one two three = (λ e. one (ap length e), λ feed e. two (ap length e), λ script feed e. three (ap length e))
+unknown-by-number words one two three = (λ e. one (ap length e), λ script e. two (ap length e), λ feed e. two (ap length e), λ script feed e. three (ap length e))

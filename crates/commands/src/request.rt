@@ -5,11 +5,12 @@ ghost use Rattle.commands.specs.Requests.{Asks};
 
 /// The usage line.
 pub const USAGE: &str =
-    "usage: velvetpalm decode FEED | velvetpalm encode SCRIPT FEED | velvetpalm --help";
+    "usage: velvetpalm day SCRIPT | velvetpalm decode FEED | velvetpalm encode SCRIPT FEED | velvetpalm --help";
 
 /// The commands, with a line each.
 pub const HELP: &str = "\
 usage: velvetpalm COMMAND
+  day SCRIPT           carries out a script for boards and plans, and prints each command with its answer
   decode FEED          prints each record of a binary feed as a script line
   encode SCRIPT FEED   writes the entry lines of a script as a binary feed
   --help               prints this text
@@ -19,6 +20,7 @@ usage: velvetpalm COMMAND
 #[derive(Clone, Copy)]
 pub enum Request<'a> {
     Help,
+    Day { script: &'a str },
     Decode { feed: &'a str },
     Encode { script: &'a str, feed: &'a str },
     Unknown,
@@ -36,11 +38,13 @@ fn one_word<'a>(command: &str) -> Request<'a>
 }
 
 /// What two words ask for.
-fn two_words<'a>(command: &str, feed: &'a str) -> Request<'a>
-    ensures answer { λ r. ⌜ Asks (now (command .entry) ∷ now (feed .entry) ∷ []) r ⌝ }
+fn two_words<'a>(command: &str, file: &'a str) -> Request<'a>
+    ensures answer { λ r. ⌜ Asks (now (command .entry) ∷ now (file .entry) ∷ []) r ⌝ }
 {
-    if command == "decode" {
-        Request::Decode { feed }
+    if command == "day" {
+        Request::Day { script: file }
+    } else if command == "decode" {
+        Request::Decode { feed: file }
     } else {
         Request::Unknown
     }

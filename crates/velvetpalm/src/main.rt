@@ -1,4 +1,4 @@
-//! The program: turns a binary feed into readable lines, and a script into a binary feed.
+//! The program: carries out a script, turns a binary feed into readable lines, and a script into a binary feed.
 use commands::encoding::FlawDisplay;
 use commands::encoding::ScriptFault;
 use commands::encoding::encode_script;
@@ -8,6 +8,8 @@ use commands::request::HELP;
 use commands::request::Request;
 use commands::request::USAGE;
 use commands::request::read_request;
+use day::report::Report;
+use day::run::run_script;
 use std::alloc::AllocError;
 use std::env;
 use std::fmt::Display;
@@ -39,6 +41,27 @@ impl From<AllocError> for Failure as FailureFromAlloc {
 fn blame<D: Display + Drop>(rt: &LibcRuntime, place: &str, why: D) -> Failure {
     let _ = eprintln!(rt, "{place}: {why}");
     Failure::Told
+}
+
+/// Carries out a script.
+fn day(rt: &LibcRuntime, path: &str) -> Result<(), Failure> {
+    let text = match fs::read_to_string(rt, path) {
+        Ok(text) => text,
+        Err(why) => return Err(blame(rt, path, why)),
+    };
+    let Report {
+        text: printed,
+        stop,
+    } = run_script(rt.alloc(), text.as_str())?;
+    rt.print(printed.as_str())?;
+    match stop {
+        Some(stop) => {
+            let line = stop.line;
+            let place = format!(rt.alloc(), "{path}:{line}")?;
+            Err(blame(rt, place.as_str(), stop.why.as_str()))
+        }
+        None => Ok(()),
+    }
 }
 
 /// Prints the records of a feed.
@@ -97,6 +120,7 @@ fn run(rt: &LibcRuntime) -> Result<(), Failure> {
             rt.print(HELP)?;
             Ok(())
         }
+        Request::Day { script } => day(rt, script),
         Request::Decode { feed } => decode(rt, feed),
         Request::Encode { script, feed } => encode(rt, script, feed),
         Request::Unknown => {
