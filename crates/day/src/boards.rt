@@ -71,7 +71,7 @@ fn levels<B: Board>(heap: Global, board: &B, side: Side) -> Result<Answer, Alloc
 }
 
 /// What a command for a board is answered.
-pub fn board_answer<B: Board>(
+pub(crate) fn board_answer<B: Board>(
     heap: Global,
     board: &mut B,
     command: Command,

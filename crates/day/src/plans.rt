@@ -149,7 +149,7 @@ fn other_grid(heap: Global, start: u32) -> Result<Answer, AllocError> {
 }
 
 /// What a command is answered that needs no board; none for one that does.
-pub fn plan_answer(
+pub(crate) fn plan_answer(
     heap: Global,
     timetable: &mut Timetable,
     command: Command,

@@ -9,7 +9,7 @@ use std::test::*;
 pub type Edge = (u32, Slot, Slot);
 
 // The slots one millisecond before each time, at it, and one millisecond after it.
-pub fn edges<P: Plan>(plan: &P, start: u32, rows: &[Edge]) -> Result<(), Fail> {
+pub(crate) fn edges<P: Plan>(plan: &P, start: u32, rows: &[Edge]) -> Result<(), Fail> {
     for row in rows {
         let (time, before, after) = *row;
         let time = start.wrapping_add(time);

@@ -14,7 +14,7 @@ fn next_number(number: u32) -> u32 {
 }
 
 /// Whether a side of two boards has the same levels, best first, at most `most` of them.
-pub fn same_levels<A: Board, B: Board>(a: &A, b: &B, side: Side, most: u32) -> bool {
+pub(crate) fn same_levels<A: Board, B: Board>(a: &A, b: &B, side: Side, most: u32) -> bool {
     let mut x = a.best(side);
     let mut y = b.best(side);
     for _ in 0..=most {
@@ -35,7 +35,12 @@ pub fn same_levels<A: Board, B: Board>(a: &A, b: &B, side: Side, most: u32) -> b
 
 /// Sends so many orders, of which about two in three come and one in three leaves, to two boards.
 /// Whether each order was answered alike.
-pub fn same_answers<A: Board, B: Board>(a: &mut A, b: &mut B, start: u32, orders: u32) -> bool {
+pub(crate) fn same_answers<A: Board, B: Board>(
+    a: &mut A,
+    b: &mut B,
+    start: u32,
+    orders: u32,
+) -> bool {
     let mut number = 7;
     for time in 0..orders {
         number = next_number(number);
@@ -58,7 +63,7 @@ pub fn same_answers<A: Board, B: Board>(a: &mut A, b: &mut B, start: u32, orders
 }
 
 /// Adds a level at each of so many prices. Whether each was taken.
-pub fn fill<B: Board>(board: &mut B, side: Side, start: u32, levels: u32) -> bool {
+pub(crate) fn fill<B: Board>(board: &mut B, side: Side, start: u32, levels: u32) -> bool {
     for i in 0..levels {
         if board.add(side, start.saturating_add(i), i) != Ok(()) {
             return false;
@@ -68,7 +73,7 @@ pub fn fill<B: Board>(board: &mut B, side: Side, start: u32, levels: u32) -> boo
 }
 
 /// Adds so many orders at one price. Whether each was taken.
-pub fn pile<B: Board>(board: &mut B, side: Side, price: u32, orders: u32) -> bool {
+pub(crate) fn pile<B: Board>(board: &mut B, side: Side, price: u32, orders: u32) -> bool {
     for time in 0..orders {
         if board.add(side, price, time) != Ok(()) {
             return false;
@@ -78,6 +83,6 @@ pub fn pile<B: Board>(board: &mut B, side: Side, price: u32, orders: u32) -> boo
 }
 
 /// Whether one more order at a price is refused like this.
-pub fn refuses<B: Board>(board: &mut B, side: Side, price: u32, fault: BoardFault) -> bool {
+pub(crate) fn refuses<B: Board>(board: &mut B, side: Side, price: u32, fault: BoardFault) -> bool {
     board.add(side, price, 0) == Err(fault)
 }
