@@ -10,7 +10,7 @@ use Rattle.std.specs.declared.result.Result.{Result}
 use Rattle.std.specs.declared.result.Result.the-variants.{Ok, Err}
 use Rattle.entry.specs.declared.refusals.Refusal.{Refusal}
 use Rattle.entry.specs.declared.refusals.Refusal.the-variants.{OutOfRange, WindowOverlaps, TooManyWindows}
-use Rattle.shelf.specs.Standing.{live}
+use Rattle.shelf.specs.Standing.{live, held}
 use Rattle.shelf.specs.Order.{placed}
 use Rattle.shelf.specs.Calls.{onOk}
 use Rattle.plan.specs.declared.slots.Session.{Session}
@@ -26,6 +26,10 @@ use Rattle.plan.specs.Windows.{mostWindows, latestEnd, greatestK, startOf, ear
 -- the windows of the plan, in the order of their starts
 abbrev pub announcedHours : AnnouncedPlan → List Window
 announcedHours p = live (p .shelf)
+
+-- every record handed over
+abbrev pub announcedRecords : AnnouncedPlan → List Window
+announcedRecords p = held (p .shelf)
 
 abbrev pub slotBy : Bounding → Session → ℕ → Slot
 slotBy Free session k = is.Free session

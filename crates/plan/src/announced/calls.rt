@@ -2,8 +2,9 @@
 ghost use mathlib.Core.Path.{_≡_};
 ghost use mathlib.Core.List.{[]};
 ghost use Prim.Native.Nat.{_<_};
+ghost use Rattle.shelf.specs.Standing.{over};
 ghost use Rattle.plan.specs.Windows.{lastBy, overlapsAny};
-ghost use Rattle.plan.specs.Announced.{announcedHours, windowOf, addAnswer, addAfter, windowAnswer, windowAfter};
+ghost use Rattle.plan.specs.Announced.{announcedHours, announcedRecords, windowOf, addAnswer, addAfter, windowAnswer, windowAfter};
 use crate::Plan;
 use crate::announced::AnnouncedPlan;
 use crate::records::WindowRecord;
@@ -42,9 +43,18 @@ impl<'a> AnnouncedPlan<'a> {
     /// A plan with no window, over the records handed over.
     pub fn new(records: &'a mut [Window; MOST_WINDOWS]) -> Self
         ensures answer { λ r. ⌜ announcedHours r ≡ [] ⌝ }
+        ensures records { λ r. ⌜ announcedRecords r ≡ now (records .entry) ⌝ }
     {
         let shelf = Shelf::new(records);
         AnnouncedPlan { shelf }
+    }
+
+    /// Ends the plan and hands the records back: the first of them hold its windows.
+    pub fn into_records(self) -> &'a mut [Window]
+        ensures records { λ r. ⌜ now r ≡ announcedRecords (self .entry) ⌝ }
+    {
+        let AnnouncedPlan { shelf } = self;
+        shelf.into_records()
     }
 
     // The last window that starts at or before a time, or none.
@@ -78,6 +88,7 @@ impl<'a> AnnouncedPlan<'a> {
         requires { ⌜ window .start < window .end ⌝ }
         ensures answer { λ r. ⌜ r ≡ addAnswer window (announcedHours (now (self .entry))) ⌝ }
         ensures after { λ _. ⌜ announcedHours (now (self .exit)) ≡ addAfter window (announcedHours (now (self .entry))) ⌝ }
+        ensures records { λ _. ⌜ announcedRecords (now (self .exit)) ≡ over (announcedHours (now (self .exit))) (announcedRecords (now (self .entry))) ⌝ }
     {
         if self.overlaps(window) {
             return Err(Refusal::WindowOverlaps);
@@ -88,7 +99,8 @@ impl<'a> AnnouncedPlan<'a> {
         }
     }
 
-    /// Announces a window of a session, by its code, that is free or bounded with K. A refusal changes nothing.
+    /// Announces a window of a session, by its code, that is free or bounded with K. A refusal changes nothing. The windows stand
+    /// in the first records, and the others keep what they held.
     pub fn window(
         &mut self,
         start: u32,
@@ -99,6 +111,7 @@ impl<'a> AnnouncedPlan<'a> {
     ) -> Result<(), Refusal>
         ensures answer { λ r. ⌜ r ≡ windowAnswer (windowOf start end session bounding k) (announcedHours (now (self .entry))) ⌝ }
         ensures after { λ _. ⌜ announcedHours (now (self .exit)) ≡ windowAfter (windowOf start end session bounding k) (announcedHours (now (self .entry))) ⌝ }
+        ensures records { λ _. ⌜ announcedRecords (now (self .exit)) ≡ over (announcedHours (now (self .exit))) (announcedRecords (now (self .entry))) ⌝ }
     {
         match checked(start, end, session, bounding, k) {
             Ok(window) => self.add(window),

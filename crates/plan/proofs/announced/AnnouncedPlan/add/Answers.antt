@@ -9,8 +9,10 @@ use Rattle.shelf.specs.Calls.{insertLive}
 use Rattle.plan.specs.declared.slots.Window.{Window}
 use Rattle.plan.specs.declared.announced.AnnouncedPlan.{AnnouncedPlan}
 use Rattle.plan.specs.Windows.{startOf, earlier, overlapsAny}
-use Rattle.plan.specs.Announced.{announcedHours, addAfter}
+use Rattle.plan.specs.Announced.{announcedHours, announcedRecords, addAfter}
 use Rattle.plan.proofs.Announcing.{order-inserted, accepted, refused, after-same}
+use borrow.Author.Needs.{needs}
+use Rattle.shelf.proofs.Answered.{over-same}
 use Rattle.plan.proofs.announced.AnnouncedPlan.add.Needs as need
 
 pub ghost-self : need.ghost-self
@@ -30,7 +32,7 @@ returns-in-Ok c =
     let w = c .args .window in
     let i = c .in-Ok .ensures tt in
     let a = accepted w (c .pre) (announcedHours p) (p .order) (c .if-overlaps .ensures tt) (length (held (p .shelf))) (p .records) (c .in-Ok .field-0) (i .answer) in
-    record { answer = a; after = i .live ∙ left p w (c .pre) (c .if-overlaps .ensures tt) }
+    record { answer = a; after = i .live ∙ left p w (c .pre) (c .if-overlaps .ensures tt); records = i .records }
 
 pub returns-in-Err : need.returns-in-Err
 returns-in-Err c =
@@ -38,4 +40,10 @@ returns-in-Err c =
     let w = c .args .window in
     let i = c .in-Err .ensures tt in
     let a = refused w (c .pre) (announcedHours p) (p .order) (c .if-overlaps .ensures tt) (length (held (p .shelf))) (p .records) (c .in-Err .field-0) (i .answer) in
-    record { answer = a; after = i .live ∙ left p w (c .pre) (c .if-overlaps .ensures tt) }
+    record { answer = a; after = i .live ∙ left p w (c .pre) (c .if-overlaps .ensures tt); records = i .records }
+
+pub returns-then-overlaps : need.returns-then-overlaps
+returns-then-overlaps c =
+    let p = c .args .self .now in
+    let same = over-same (announcedRecords p) (p .shelf .len) (p .stands .0) in
+    record { answer = search needs; after = search needs; records = same }
