@@ -1,4 +1,6 @@
 //! What a board is to all that use one: its calls, what they answer and leave, and what holds of every board.
+#![tactic(auto)]
+
 pub mod faults;
 pub mod levels;
 pub mod listing;

@@ -1,3 +1,0 @@
--- A script, step by step.
-pub mod Announcing
-pub mod Printing

@@ -1,11 +1,9 @@
 // The commands for a board, whichever it is.
-ghost use Rattle.std.specs.Prelude.{◌≡◌, length, take, IfOk, vec_len, string_bytes};
-ghost use Rattle.board.specs.Book.{levels_of};
-ghost use Rattle.board.specs.Calls.{add_answer, add_after, take_answer, take_after};
-ghost use Rattle.day.specs.Boards.{most_levels, fault_number, board_told, board_after};
-ghost use Rattle.day.specs.Told.{told_by, result, done_text, level_text, levels_text};
+ghost use Rattle.std.specs.Prelude.{◌≡◌};
+ghost use Rattle.board.specs.Calls.{add_after, take_after};
+ghost use Rattle.day.specs.Boards.{board_after};
 
-use crate::report::{Answer, Misplaced, done};
+use crate::report::{Answer, done};
 use board::listing::list_levels;
 use board::{Board, Level};
 use entry::Side;
@@ -29,8 +27,7 @@ fn add<B: Board>(
     price: u32,
     time: u32,
 ) -> Result<Answer, AllocError>
-    ensures* answer { λ r. ⌜ IfOk r (λ answer. told_by answer ≡ result (done_text (fault_number (add_answer (B.Board.book board.old) side price)))) ⌝ }
-    ensures* after { λ _. ⌜ B.Board.book board.new ≡ add_after (B.Board.book board.old) side price time ⌝ }
+    ensures after { B.Board.book board.new ≡ add_after (B.Board.book board.old) side price time }
 {
     match board.add(side, price, time) {
         Ok(()) => done(heap, 0),
@@ -40,8 +37,7 @@ fn add<B: Board>(
 
 // One order less on the board itself.
 fn take<B: Board>(heap: Global, board: &mut B, side: Side, price: u32) -> Result<Answer, AllocError>
-    ensures* answer { λ r. ⌜ IfOk r (λ answer. told_by answer ≡ result (done_text (fault_number (take_answer (B.Board.book board.old) side price)))) ⌝ }
-    ensures* after { λ _. ⌜ B.Board.book board.new ≡ take_after (B.Board.book board.old) side price ⌝ }
+    ensures after { B.Board.book board.new ≡ take_after (B.Board.book board.old) side price }
 {
     match board.take(side, price) {
         Ok(()) => done(heap, 0),
@@ -49,60 +45,26 @@ fn take<B: Board>(heap: Global, board: &mut B, side: Side, price: u32) -> Result
     }
 }
 
-// A level as it is printed.
-fn level_text(heap: Global, level: Level) -> Result<String, AllocError>
-    ensures* answer { λ r. ⌜ IfOk r (λ text. string_bytes text ≡ level_text level) ⌝ }
-{
-    let Level {
-        price,
-        orders,
-        since,
-    } = level;
-    format!(in heap; "{price}:{orders}:{since}")
-}
-
-// Levels as they are printed, with blanks between.
-fn levels_text(heap: Global, levels: &[Level]) -> Result<String, AllocError>
-    ensures* answer { λ r. ⌜ IfOk r (λ text. string_bytes text ≡ levels_text levels.now) ⌝ }
-{
-    let Some((best, others)) = levels.split_first() else {
-        return String::from_str(heap, "none");
-    };
-    let mut text = level_text(heap, *best)?;
-    for level in others {
-        let next = level_text(heap, *level)?;
-        text.push_str(" ")?;
-        text.push_str(next.as_str())?;
+// The levels of a side, best first.
+fn levels<B: Board>(heap: Global, board: &B, side: Side) -> Result<Answer, AllocError> {
+    let mut listed = vec![in heap; BLANK; MOST_LEVELS]?;
+    let count = list_levels(board, side, listed.as_mut_slice());
+    if count == 0 {
+        return Ok(Answer::Result(String::from_str(heap, "none")?));
     }
-    Ok(text)
-}
-
-// The levels of a side as they are printed, best first, as far as there is room to list them.
-fn listed_text<B: Board>(
-    heap: Global,
-    board: &B,
-    side: Side,
-    room: &mut [Level],
-) -> Result<String, AllocError>
-    ensures* answer { λ r. ⌜ IfOk r (λ text. string_bytes text ≡ levels_text (take (length room.old) (levels_of (B.Board.book board.now) side))) ⌝ }
-{
-    let count = list_levels(board, side, room);
-    levels_text(heap, &room[0..count])
-}
-
-// Room to list a side of any board of a script.
-fn room_for_levels(heap: Global) -> Result<Vec<Level>, AllocError>
-    ensures* answer { λ r. ⌜ IfOk r (λ room. vec_len room ≡ most_levels) ⌝ }
-{
-    vec![in heap; BLANK; MOST_LEVELS]
-}
-
-/// The levels of a side, best first.
-pub(crate) fn levels<B: Board>(heap: Global, board: &B, side: Side) -> Result<Answer, AllocError>
-    ensures* answer { λ r. ⌜ IfOk r (λ answer. told_by answer ≡ result (levels_text (take most_levels (levels_of (B.Board.book board.now) side)))) ⌝ }
-{
-    let mut room = room_for_levels(heap)?;
-    let text = listed_text(heap, board, side, room.as_mut_slice())?;
+    let mut text = String::new(heap);
+    for level in listed.iter().take(count) {
+        if !text.is_empty() {
+            text.push_str(" ")?;
+        }
+        let Level {
+            price,
+            orders,
+            since,
+        } = *level;
+        let one = format!(in heap; "{price}:{orders}:{since}")?;
+        text.push_str(one.as_str())?;
+    }
     Ok(Answer::Result(text))
 }
 
@@ -112,13 +74,12 @@ pub(crate) fn board_answer<B: Board>(
     board: &mut B,
     command: Command,
 ) -> Result<Answer, AllocError>
-    ensures* answer { λ r. ⌜ IfOk r (λ answer. told_by answer ≡ board_told (B.Board.book board.old) command.entry) ⌝ }
-    ensures* after { λ _. ⌜ B.Board.book board.new ≡ board_after (B.Board.book board.old) command.entry ⌝ }
+    ensures after { B.Board.book board.new ≡ board_after (B.Board.book board.old) command.entry }
 {
     match command {
         Command::Add { side, price, time } => add(heap, board, side, price, time),
         Command::Take { side, price } => take(heap, board, side, price),
         Command::Levels { side } => levels(heap, board, side),
-        _ => Ok(Answer::OutOfPlace(Misplaced::NoBoard)),
+        _ => Ok(Answer::OutOfPlace("this is no command for a board")),
     }
 }

@@ -1,4 +1,6 @@
 //! The days of a security: an open day judges and applies entries, and a closed day keeps what the next day starts from.
+#![tactic(auto)]
+
 mod applying;
 mod checks;
 pub mod closing;

@@ -1,4 +1,6 @@
 //! What a day is told, one entry at a time, in raw figures: any figure that fits its type may come, and is judged later.
+#![tactic(auto)]
+
 pub mod refusals;
 
 /// The side of an order. A higher price is better for a buy, a lower one for a sell.

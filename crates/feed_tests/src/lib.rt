@@ -1,4 +1,6 @@
 //! Tests of the feed: worked records, smallest and largest figures, every truncation, every flipped bit, the longest feed.
+#![tactic(auto)]
+
 #[cfg(test)]
 mod tests {
     use entry::refusals::Refusal;

@@ -1,4 +1,6 @@
 //! The grid: a board over 256 consecutive prices, with a cell for each price and side.
+#![tactic(auto)]
+
 pub mod calls;
 mod cells;
 mod side_cells;

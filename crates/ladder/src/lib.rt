@@ -1,4 +1,6 @@
 //! The ladder: a board over all prices, each side best first on a shelf of records handed over.
+#![tactic(auto)]
+
 pub mod calls;
 mod one_side;
 pub mod records;

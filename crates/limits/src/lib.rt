@@ -1,4 +1,6 @@
 //! The static and the dynamic limits of a security: exact figures, rounded inward. Any figures get an answer.
+#![tactic(auto)]
+
 ghost use Rattle.std.specs.Prelude.{◌≡◌, ◌≤◌};
 ghost use Rattle.limits.specs.Rounded.{static_limits, dynamic_limits, tightened, bounds_of};
 ghost use Rattle.limits.specs.Exact.{Least, Greatest, FromStaticLower, ToStaticUpper, FromDynamicLower, ToDynamicUpper};

@@ -1,4 +1,6 @@
 //! What a day plan is to all that ask one: the session, if there is one, at each time of a trading day.
+#![tactic(auto)]
+
 pub mod announced;
 pub mod fixed;
 mod records;

@@ -1,4 +1,6 @@
 //! Tests of script lines and of what the program's commands make of them: each form, each fault, and its text.
+#![tactic(auto)]
+
 #[cfg(test)]
 mod tests {
     use commands::encoding::{ScriptFault, encode_script};

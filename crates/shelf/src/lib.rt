@@ -1,4 +1,6 @@
 //! A shelf: records handed over by its owner, those that stand kept at the front in the order of their keys.
+#![tactic(auto)]
+
 mod moves;
 mod search;
 

@@ -1,4 +1,6 @@
 //! Both boards tried together: made after their first test, and driven by the same orders.
+#![tactic(auto)]
+
 #[cfg(test)]
 mod driving;
 pub mod lending;

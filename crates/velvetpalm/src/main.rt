@@ -1,11 +1,12 @@
 //! The program: carries out a script, turns a binary feed into readable lines, and a script into a binary feed.
+#![tactic(auto)]
+
 use commands::encoding::{ScriptFault, encode_script};
 use commands::listing::{counted, list_feed};
 use commands::request::{HELP, Request, USAGE, read_request};
-use day::feeds::Feeds;
 use day::report::Report;
 use day::run::run_script;
-use std::alloc::{AllocError, Global};
+use std::alloc::AllocError;
 use std::fmt::Display;
 use std::{env, fs, io};
 
@@ -36,18 +37,6 @@ fn blame<D: Display + Drop>(rt: &HostRuntime, place: &str, why: D) -> Failure {
     Failure::Told
 }
 
-/// The files that a script's feeds are read from.
-#[derive(Drop)]
-struct FeedFiles<'a> {
-    rt: &'a HostRuntime,
-}
-
-impl Feeds for FeedFiles<'_> {
-    fn read(&mut self, _heap: Global, name: &str) -> Result<Option<Vec<u8>>, AllocError> {
-        Ok(fs::read(self.rt, name).ok())
-    }
-}
-
 /// Carries out a script.
 fn day(rt: &HostRuntime, path: &str) -> Result<(), Failure> {
     let text = match fs::read_to_string(rt, path) {
@@ -57,7 +46,7 @@ fn day(rt: &HostRuntime, path: &str) -> Result<(), Failure> {
     let Report {
         text: printed,
         stop,
-    } = run_script(rt.alloc(), text.as_str(), &mut FeedFiles { rt })?;
+    } = run_script(rt.alloc(), text.as_str())?;
     rt.print(printed.as_str())?;
     match stop {
         Some(stop) => {
@@ -189,24 +178,6 @@ mod tests {
         fs::remove_file(&rt, "there.feed")?;
         assert!(rt; decode(&rt, "there.feed").is_err());
         assert!(rt; encode(&rt, "there.txt", "there.feed").is_err());
-        Ok(())
-    }
-
-    #[test]
-    fn a_script_reads_its_feeds_from_files(rt: HostRuntime) -> Result<(), Fail> {
-        fs::write(
-            &rt,
-            "opened.txt",
-            "plan fixed 1 0\nboard grid 1\nlisted\nopen 0 1 1 1 1\nfeed opened.feed\nclose\n",
-        )?;
-        fs::write(&rt, "clock.txt", "clock 5\n")?;
-        assert!(rt; day(&rt, "opened.txt").is_err(), "there is no feed yet");
-        assert!(rt; encode(&rt, "clock.txt", "opened.feed").is_ok());
-        assert!(rt; day(&rt, "opened.txt").is_ok());
-        fs::remove_file(&rt, "opened.txt")?;
-        fs::remove_file(&rt, "clock.txt")?;
-        fs::remove_file(&rt, "opened.feed")?;
-        assert!(rt; day(&rt, "opened.txt").is_err());
         Ok(())
     }
 }

@@ -1,4 +1,6 @@
 //! The worked examples that are runs: each list of entries on a ladder and on a grid, with the trail of both, and one record's bytes.
+#![tactic(auto)]
+
 use board::{Board, Level};
 use engine::ClosedDay;
 use entry::{Entry, Params, Side};

@@ -1,0 +1,10 @@
+-- Each turn takes a line.
+use Rattle.std.proofs.Common.{◌≤◌, length}
+use Rattle.script_words.specs.Lines.{to_come}
+use Rattle.day.proofs.run.Desk.command.Given as goal
+
+abbrev pub invariant-loop-line : goal.invariant-loop-line
+invariant-loop-line l = length (to_come l.lines) ≤ length (to_come l.initial.lines)
+
+abbrev pub decreases-loop-line : goal.decreases-loop-line
+decreases-loop-line l = length (to_come l.lines)
