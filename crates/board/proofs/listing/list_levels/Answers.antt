@@ -6,10 +6,10 @@ use Rattle.board.specs.Listing.{listed}
 use Rattle.board.proofs.Ordered.{next_nth, nth_inside, nth_outside, listed_more}
 use Rattle.board.proofs.listing.list_levels.Goals as goal
 
-pub returns-in-default : goal.returns-in-default
-returns-in-default g c =
+pub returns-in_default : goal.returns-in_default
+returns-in_default g c =
     let ls = levels_of (g.B.Board.book c.args.board.now) c.args.side in
-    let o = nth_outside ls c.loop-i.i (sym c.in-default.is ∙ c.loop-i.invariant.1) in
+    let o = nth_outside ls c.loop-i.i (sym c.in_default.is ∙ c.loop-i.invariant.1) in
     let i = c.loop-i.invariant.0 in
     record { answer = omega arith; after = c.loop-i.invariant.2 }
 

@@ -12,8 +12,8 @@ returns-then-self-eq0 g c =
     let s = c.args.self.now in
     sym (ap (λ n. first_after g.R.Record.key g.R.Record.before c.args.key (take n s.records.now)) c.if-self-eq0.true)
 
-pub overflow-add-at : goal.overflow-add-at
-overflow-add-at g c =
+pub overflow_add-at : goal.overflow_add-at
+overflow_add-at g c =
     let s = c.args.self.now in
     let key = g.R.Record.key in
     let before = g.R.Record.before in

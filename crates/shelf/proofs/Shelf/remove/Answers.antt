@@ -8,27 +8,27 @@ use Rattle.shelf.proofs.Order.{ascends_removed}
 use Rattle.shelf.proofs.Answered.{over-same, removed_past, nth_inside, nth_outside, live_written, records_written, stands_written}
 use Rattle.shelf.proofs.Shelf.remove.Goals as goal
 
-pub returns-in-default : goal.returns-in-default
-returns-in-default g c =
+pub returns-in_default : goal.returns-in_default
+returns-in_default g c =
     let s = c.args.self.now in
     record {
-      answer = c.in-default.ensures;
-      live = removed_past (live s) c.args.at (nth_outside (live s) c.args.at c.in-default.ensures);
+      answer = c.in_default.ensures;
+      live = removed_past (live s) c.args.at (nth_outside (live s) c.args.at c.in_default.ensures);
       records = over-same (held s) s.len c.requires.0;
       most = refl;
       stands = c.requires;
       lent = refl;
     }
 
-pub close-gap-requires : goal.close-gap-requires
-close-gap-requires g c =
+pub close_gap-requires : goal.close_gap-requires
+close_gap-requires g c =
     let s = c.args.self.now in
     let e : length (take s.len s.records.now) ≡ s.len = length-take-le s.len s.records.now c.requires.0 in
     let i = nth_inside (live s) c.args.at c.in-Some.old c.in-Some.ensures in
     record { inside = omega arith; room = omega (arith, c.requires.0) }
 
-pub overflow-sub-self : goal.overflow-sub-self
-overflow-sub-self g c =
+pub overflow_sub-self : goal.overflow_sub-self
+overflow_sub-self g c =
     let s = c.args.self.now in
     let e : length (take s.len s.records.now) ≡ s.len = length-take-le s.len s.records.now c.requires.0 in
     let i = nth_inside (live s) c.args.at c.in-Some.old c.in-Some.ensures in
@@ -41,12 +41,12 @@ returns g c =
     let e : length (take s.len s.records.now) ≡ s.len = length-take-le s.len s.records.now c.requires.0 in
     let i = nth_inside (live s) at c.in-Some.old c.in-Some.ensures in
     let l : length (remove (live s) at) ≡ s.len - 1 = omega (arith, length-remove (live s) at i) in
-    let y = c.close-gap.ensures in
+    let y = c.close_gap.ensures in
     record {
       answer = c.in-Some.ensures;
       live = live_written (remove (live s) at) (held s) _ (s.len - 1) l y;
       records = records_written (remove (live s) at) (held s) _ (s.len - 1) l y;
-      most = c.close-gap.auto.records;
+      most = c.close_gap.auto.records;
       stands = stands_written (remove (live s) at) (held s) _ (s.len - 1) l y g.R.Record.key g.R.Record.before (ascends_removed g.R.Record.key g.R.Record.before (live s) at c.requires.1);
       lent = refl;
     }
