@@ -1,5 +1,5 @@
 -- A word of marks: its leading zeros find the first cell that stands, and a cell that comes to stand or falls flips one bit.
-use Rattle.std.proofs.Common.{◌≡◌, ℕ, zero, suc, ◌+◌, ◌-◌, ◌*◌, ◌/◌, ◌%◌, ◌^◌, ◌<◌, ◌≤◌, Bool, true, false, cond, not, eqb, ltb, ◌≢◌, List, [], ◌∷◌, length, get_or, drop, set, replicate, Some, Option, sym, refl, ap, ◌∙◌, subst, ap₂, inl, inr, mod-eq_of_lt, mul_assoc, add-mul, pow-suc, arith, pow_pos}
+use Rattle.std.proofs.Common.{◌≡◌, ℕ, zero, suc, ◌+◌, ◌-◌, ◌*◌, ◌/◌, ◌%◌, ◌^◌, ◌<◌, ◌≤◌, true, false, cond, not, eqb, ltb, ◌≢◌, List, [], ◌∷◌, length, get_or, drop, set, replicate, Some, Option, sym, refl, ap, ◌∙◌, subst, ap₂, inl, inr, mod-eq_of_lt, mul_assoc, add-mul, pow-suc, arith, pow_pos}
 use mathlib.Core.Bool.{beq}
 use native.Mathlib.Nat.{zero-mod, mul-add-mod_self_right}
 use lib.Bits.{bit_and, bit_xor, xor_block, xor_zero_r}

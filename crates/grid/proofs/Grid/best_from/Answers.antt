@@ -6,10 +6,10 @@ use Rattle.grid.specs.Ranks.{level_in, side_over}
 use Rattle.grid.proofs.Answered.{size_of, first_is, first-none, first_below}
 use Rattle.grid.proofs.Grid.best_from.Goals as goal
 
-pub returns-in-default : goal.returns-in-default
-returns-in-default c =
+pub returns-in_default : goal.returns-in_default
+returns-in_default c =
     let g = c.args.self.now in
-    first-none c.args.side g.start c.args.from (side_over c.args.side g.buys.cells g.sells.cells) (sym c.in-default.ensures)
+    first-none c.args.side g.start c.args.from (side_over c.args.side g.buys.cells g.sells.cells) (sym c.in_default.ensures)
 
 -- the rank that was found is one of the 256
 pub get-cell-requires : goal.get-cell-requires

@@ -15,11 +15,11 @@ first-levels level xs ys n h e =
 pub returns : goal.returns
 returns c =
     let l = c.args.self in
-    let b = ap (λ r. r.now) c.into-records.ensures in
-    let s = ap (λ r. r.now) c.into-records-2.ensures in
+    let b = ap (λ r. r.now) c.into_records.ensures in
+    let s = ap (λ r. r.now) c.into_records-2.ensures in
     let n = counts_told (length (held l.buys)) (length (held l.sells)) l.counts in
-    let u = ap (λ x. x.ghost_name) c.into-records.ensures in
-    let v = ap (λ x. x.ghost_name) c.into-records-2.ensures in
+    let u = ap (λ x. x.ghost_name) c.into_records.ensures in
+    let v = ap (λ x. x.ghost_name) c.into_records-2.ensures in
     record {
       buys = first-levels (λ (r : BuyLevel). r.0) (held l.buys) _ l.buys.len l.buys_stand.0 b;
       sells = first-levels (λ (r : SellLevel). r.0) (held l.sells) _ l.sells.len l.sells_stand.0 s;

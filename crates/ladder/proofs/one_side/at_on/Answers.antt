@@ -12,7 +12,7 @@ pub returns-in-Ok : goal.returns-in-Ok
 returns-in-Ok g c =
     let s = c.args.shelf.now in
     let o = sought_ok g.R.Record.key g.R.Record.before c.args.price (live s) c.in-Ok.at c.in-Ok.ensures in
-    c.level-in.ensures ∙ ap (level_in g.R.LevelRecord.level) (c.get.ensures ∙ ap (slice_get (live s)) o.1) ∙ found_at g.R.Record.key g.R.Record.before g.R.LevelRecord.level g.R.LevelRecord.side g.met.R.LevelRecord.priced g.met.R.LevelRecord.ranked c.args.price (live s) o.0
+    c.level_in.ensures ∙ ap (level_in g.R.LevelRecord.level) (c.get.ensures ∙ ap (slice_get (live s)) o.1) ∙ found_at g.R.Record.key g.R.Record.before g.R.LevelRecord.level g.R.LevelRecord.side g.met.R.LevelRecord.priced g.met.R.LevelRecord.ranked c.args.price (live s) o.0
 
 pub returns-in-Err : goal.returns-in-Err
 returns-in-Err g c =

@@ -14,4 +14,4 @@ first-level level (x ∷ xs) = refl
 pub returns : goal.returns
 returns g c =
     let s = c.args.shelf.now in
-    c.level-in.ensures ∙ ap (level_in g.R.LevelRecord.level) c.first.ensures ∙ first-level g.R.LevelRecord.level (live s)
+    c.level_in.ensures ∙ ap (level_in g.R.LevelRecord.level) c.first.ensures ∙ first-level g.R.LevelRecord.level (live s)

@@ -8,4 +8,4 @@ use Rattle.ladder.proofs.one_side.next_on.Goals as goal
 pub returns : goal.returns
 returns g c =
     let s = c.args.shelf.now in
-    c.level-in.ensures ∙ ap (level_in g.R.LevelRecord.level) c.after.ensures ∙ next-after g.R.Record.key g.R.Record.before g.R.LevelRecord.level g.R.LevelRecord.side g.met.R.LevelRecord.priced g.met.R.LevelRecord.ranked c.args.price (live s)
+    c.level_in.ensures ∙ ap (level_in g.R.LevelRecord.level) c.after.ensures ∙ next-after g.R.Record.key g.R.Record.before g.R.LevelRecord.level g.R.LevelRecord.side g.met.R.LevelRecord.priced g.met.R.LevelRecord.ranked c.args.price (live s)

@@ -29,12 +29,12 @@ pub returns : goal.returns
 returns c =
     let n = length c.args.buys.now in
     let m = length c.args.sells.now in
-    let a = c.in-default.ensures.answer in
+    let a = c.in_default.ensures.answer in
     let fits : counts_fit n m ≡ true = grind (arith, nat_tests) in
     let room : 16 ≤ n = grind (arith, nat_tests) in
     let b = ap (λ k. k.buys) (c.add.ensures.after ∙ ap (λ k. add_after k Buy 7 3) c.new-ladder.ensures.answer) ∙ one-buy n (omega arith) in
-    let xs = c.into-records-records.result.0.now in
-    let t = sym (ap (λ k. take (length k) (buys_in xs)) b) ∙ (c.into-records-records.ensures.buys ∙ b) in
+    let xs = c.into_records-records.result.0.now in
+    let t = sym (ap (λ k. take (length k) (buys_in xs)) b) ∙ (c.into_records-records.ensures.buys ∙ b) in
     let f = first-record xs _ (new_level 7 3) t in
     let F : Bool → Option Level = λ v. cond v (Some (new_level 7 3)) None in
     let G : Level → Option Level = λ x. Some x in

@@ -5,10 +5,10 @@ use Rattle.grid.specs.Ranks.{seen}
 use Rattle.grid.proofs.Answered.{off, spot, at_off, at_spot}
 use Rattle.grid.proofs.calls.GridBoard.at.Goals as goal
 
-pub returns-in-default : goal.returns-in-default
-returns-in-default c =
+pub returns-in_default : goal.returns-in_default
+returns-in_default c =
     let g = c.args.self.now in
-    record { answer = sym (at_off (off c.args.side g.start c.args.price g.buys.cells g.sells.cells g.buys.size g.sells.size c.in-default.ensures)) }
+    record { answer = sym (at_off (off c.args.side g.start c.args.price g.buys.cells g.sells.cells g.buys.size g.sells.size c.in_default.ensures)) }
 
 pub returns-then-cell-eq0 : goal.returns-then-cell-eq0
 returns-then-cell-eq0 c =

@@ -11,6 +11,6 @@ returns c =
     let s = c.args.side in
     let cs = side_over s g.buys.cells g.sells.cells in
     record {
-      answer = c.best-from.ensures ∙ ap (λ (k : ℕ). first (levels s g.start k (drop k cs))) c.ranks-to-from.ensures
+      answer = c.best_from.ensures ∙ ap (λ (k : ℕ). first (levels s g.start k (drop k cs))) c.ranks_to-from.ensures
           ∙ next_is s g.start c.args.price g.buys.cells g.sells.cells (size_of s _ _ g.buys.size g.sells.size);
     }

@@ -23,5 +23,5 @@ returns c =
     let h = c.args.self.now in
     let f = first_rest h.cells c.args.from _ (rest_marks h.marks h.cells c.args.from h.marked (omega arith)) in
     let t = c.if-rest-ne0.false in
-    let e = c.first-from-word.ensures in
+    let e = c.first_from_word.ensures in
     grind (arith, nat_tests)

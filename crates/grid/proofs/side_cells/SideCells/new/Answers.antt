@@ -4,5 +4,5 @@ use Rattle.grid.proofs.Words.{marks_none}
 use Rattle.grid.proofs.Soundness.{limited_none}
 use Rattle.grid.proofs.side_cells.SideCells.new.Goals as goal
 
-pub invariant-of-result : goal.invariant-of-result
-invariant-of-result c = (refl, (refl, (limited_none 256, (marks_none, tt))))
+pub invariant_of-result : goal.invariant_of-result
+invariant_of-result c = record { size = refl; words = refl; limited = limited_none 256; marked = marks_none }

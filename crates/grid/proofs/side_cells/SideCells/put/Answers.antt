@@ -7,15 +7,15 @@ use Rattle.grid.proofs.Soundness.{limited_set}
 use Rattle.grid.proofs.Words.{marks_same, marks_flip, stood_same, stood_other}
 use Rattle.grid.proofs.side_cells.SideCells.put.Goals as goal
 
-pub invariant-of-self : goal.invariant-of-self
-invariant-of-self c =
+pub invariant_of-self : goal.invariant_of-self
+invariant_of-self c =
     let h = c.args.self.now in
     let i = c.args.rank in
     let e = stood_other (cell_at h.cells i) c.args.cell c.if-stood-stands.true in
-    (simp length-set h.size, (simp length-set h.words, (limited_set h.cells i c.args.cell h.limited (omega arith), (marks_flip h.marks h.cells i _ c.args.cell h.marked h.words h.size c.requires e (ap (bit_xor (get_or h.marks (i / 64) 0)) (one_shl (63 - i % 64) 64 (omega arith))), tt))))
+    record { size = simp length-set h.size; words = simp length-set h.words; limited = limited_set h.cells i c.args.cell h.limited (omega arith); marked = marks_flip h.marks h.cells i _ c.args.cell h.marked h.words h.size c.requires e (ap (bit_xor (get_or h.marks (i / 64) 0)) (one_shl (63 - i % 64) 64 (omega arith))) }
 
-pub invariant-of-self-else-stood-stands : goal.invariant-of-self-else-stood-stands
-invariant-of-self-else-stood-stands c =
+pub invariant_of-self-else-stood-stands : goal.invariant_of-self-else-stood-stands
+invariant_of-self-else-stood-stands c =
     let h = c.args.self.now in
     let e = stood_same (cell_at h.cells c.args.rank) c.args.cell c.if-stood-stands.false in
-    (simp length-set h.size, (h.words, (limited_set h.cells c.args.rank c.args.cell h.limited (omega arith), (marks_same h.marks h.cells c.args.rank c.args.cell h.marked e, tt))))
+    record { size = simp length-set h.size; words = h.words; limited = limited_set h.cells c.args.rank c.args.cell h.limited (omega arith); marked = marks_same h.marks h.cells c.args.rank c.args.cell h.marked e }

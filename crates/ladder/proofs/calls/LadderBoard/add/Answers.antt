@@ -7,18 +7,18 @@ use Rattle.ladder.specs.Counts.{counts_fit}
 use Rattle.ladder.proofs.Soundness.{add_proper}
 use Rattle.ladder.proofs.calls.LadderBoard.add.Goals as goal
 
-pub invariant-of-self : goal.invariant-of-self
-invariant-of-self c =
+pub invariant_of-self : goal.invariant_of-self
+invariant_of-self c =
     let l = c.args.self.now in
-    let d = c.add-on.ensures in
+    let d = c.add_on.ensures in
     let p = ap all_proper d.levels ∙ add_proper Buy (length (held l.buys)) c.args.price c.args.time (buys_in (live l.buys)) l.buys_proper in
     let n = ap (λ m. counts_fit m (length (held l.sells))) d.most ∙ l.counts in
-    (d.stands, (l.sells_stand, (p, (l.sells_proper, (n, tt)))))
+    record { buys_stand = d.stands; sells_stand = l.sells_stand; buys_proper = p; sells_proper = l.sells_proper; counts = n }
 
-pub invariant-of-self-in-Sell : goal.invariant-of-self-in-Sell
-invariant-of-self-in-Sell c =
+pub invariant_of-self-in-Sell : goal.invariant_of-self-in-Sell
+invariant_of-self-in-Sell c =
     let l = c.args.self.now in
-    let d = c.add-on-in-Sell.ensures in
+    let d = c.add_on-in-Sell.ensures in
     let p = ap all_proper d.levels ∙ add_proper Sell (length (held l.sells)) c.args.price c.args.time (sells_in (live l.sells)) l.sells_proper in
     let n = ap (counts_fit (length (held l.buys))) d.most ∙ l.counts in
-    (l.buys_stand, (d.stands, (l.buys_proper, (p, (n, tt)))))
+    record { buys_stand = l.buys_stand; sells_stand = d.stands; buys_proper = l.buys_proper; sells_proper = p; counts = n }
