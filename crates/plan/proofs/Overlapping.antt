@@ -1,11 +1,11 @@
 -- Two windows overlap exactly if some time lies in both: the later of their starts does.
-use Rattle.std.proofs.Common.{◌≡◌, ℕ, ◌<◌, ◌≤◌, max, Bool, true, false, ltb, leb, List, [], ◌∷◌, Decides, arith}
-use Rattle.std.proofs.lemmas.Bool.Decides.{nat_tests, Decides-or}
+use Rattle.std.proofs.Common.{◌≡◌, ℕ, ◌<◌, ◌≤◌, max, true, ltb, leb, [], ◌∷◌, Decides, arith}
+use Rattle.std.proofs.lemmas.Bool.Decides.{Decides-or}
 use Rattle.std.proofs.lemmas.Bool.{false≢true, and_from, and_parts, le-leb, lt-ltb, ltb-true}
 use Rattle.plan.specs.declared.slots.Window.{Window}
-use Rattle.plan.specs.Hours.{contains, in_order}
-use Rattle.plan.specs.Windows.{overlap, overlaps_any}
-use Rattle.plan.specs.Overlaps.{Common, CommonAny, Overlaps}
+use Rattle.plan.specs.Hours.{contains}
+use Rattle.plan.specs.Windows.{overlap}
+use Rattle.plan.specs.Overlaps.{Common, Overlaps}
 use Rattle.plan.proofs.Order.{order_parts, inside}
 
 holds : (w : Window) (t : ℕ) → w.start ≤ t → t < w.end → contains w t ≡ true

@@ -2,7 +2,7 @@
 use Rattle.std.specs.Prelude.{◌≡◌, ℕ, ◌<◌, true, ◌⊎◌, List, [], ◌∷◌, Decides}
 use Rattle.plan.specs.declared.slots.Window.{Window}
 use Rattle.plan.specs.Hours.{contains, in_order}
-use Rattle.plan.specs.Windows.{overlap, overlaps_any}
+use Rattle.plan.specs.Windows.{overlaps_any}
 
 -- some time lies in both windows
 abbrev pub Common : Window → Window → Type 0

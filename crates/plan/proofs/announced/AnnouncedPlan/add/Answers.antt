@@ -11,12 +11,12 @@ use Rattle.plan.proofs.Announcing.{order_inserted, accepted, refused, after_same
 use Rattle.shelf.proofs.Answered.{over-same}
 use Rattle.plan.proofs.announced.AnnouncedPlan.add.Goals as goal
 
-pub invariant-of-self : goal.invariant-of-self
-invariant-of-self c =
+pub invariant_of-self : goal.invariant_of-self
+invariant_of-self c =
     let p = c.args.self.now in
     let i = c.insert.ensures in
     let o = ap (in_order 0) i.live ∙ order_inserted c.args.window c.requires (announced_hours p) p.order c.if-overlaps.ensures (length (held p.shelf)) in
-    (i.stands, (o, (i.most ∙ p.records, tt)))
+    record { stands = i.stands; order = o; records = i.most ∙ p.records }
 
 -- what the shelf leaves is what the plan holds then
 left : (p : AnnouncedPlan) (w : Window) → w.start < w.end → false ≡ overlaps_any w (announced_hours p) → insert_live start_of earlier w (announced_hours p) (length (held p.shelf)) ≡ add_after w (announced_hours p)

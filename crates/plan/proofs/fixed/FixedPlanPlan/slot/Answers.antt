@@ -15,4 +15,4 @@ pub returns : goal.returns
 returns c =
     let p = c.args.self.now in
     let t = c.args.time in
-    record { answer = c.slot-in.ensures ∙ sym (fixed_slot p t ∙ cond-false _ _ _ (le-ltb p.earlier (t / day) c.if-day-self.false)) }
+    record { answer = c.slot_in.ensures ∙ sym (fixed_slot p t ∙ cond-false _ _ _ (le-ltb p.earlier (t / day) c.if-day-self.false)) }
