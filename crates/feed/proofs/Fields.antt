@@ -1,9 +1,9 @@
 -- The laws of a list of fields, one step on.
-use Rattle.std.proofs.Common.{◌≡◌, ℕ, zero, suc, ◌+◌, ◌-◌, ◌*◌, ◌/◌, ◌%◌, ◌^◌, ◌<◌, ◌≤◌, Bool, true, false, ◌&&◌, ltb, leb, ◌≢◌, ◌⊎◌, List, [], ◌∷◌, ◌++◌, length, get_or, take, drop, set, sym, refl, ap, ◌∙◌, subst, inl, inr, mod_lt, arith, pow_pos, ltb-true, le-ltb, lt-ltb, leb-true}
+use Rattle.std.proofs.Common.{◌≡◌, ℕ, ◌+◌, ◌-◌, ◌*◌, ◌/◌, ◌%◌, ◌^◌, ◌<◌, ◌≤◌, true, false, ◌&&◌, ltb, leb, List, ◌∷◌, length, get_or, drop, sym, ap, ◌∙◌, subst, inl, inr, mod-lt, arith, pow_pos, ltb-true, le-ltb, lt-ltb, leb-true}
 use lib.Pow.{split}
 use native.Mathlib.Nat.{div-eq_of_lt}
-use Rattle.std.proofs.lemmas.Bool.{cases_lt, and_parts, and_from, and_left}
-use Rattle.std.proofs.lemmas.List.{drop_more, take_more, take_more_set, length-take-le, drop-drop}
+use Rattle.std.proofs.lemmas.Bool.{cases_lt, and_parts}
+use Rattle.std.proofs.lemmas.List.{drop_more, drop-drop}
 use Rattle.layout.specs.Bits.{total, fit, packed}
 use Rattle.feed.specs.Cursor.{narrow}
 
@@ -41,4 +41,4 @@ wide v w h = elim (cases_lt v (2 ^ w)) [ inl p ↦ absurd (h (div-eq_of_lt p)) |
 pub slim : (v w : ℕ) → v / 2 ^ w ≡ 0 → ltb v (2 ^ w) ≡ true
 slim v w h =
     let e : 0 * 2 ^ w + v % 2 ^ w ≡ v = subst (λ (x : ℕ). x * 2 ^ w + v % 2 ^ w ≡ v) h (split v w) in
-    lt-ltb v (2 ^ w) (omega (arith, e, mod_lt v (pow_pos w)))
+    lt-ltb v (2 ^ w) (omega (arith, e, mod-lt v (pow_pos w)))

@@ -1,10 +1,10 @@
 -- The laws of a cursor, over any width.
-use Rattle.std.proofs.Common.{◌≡◌, ℕ, zero, suc, ◌+◌, ◌-◌, ◌*◌, ◌/◌, ◌%◌, ◌^◌, ◌<◌, ◌≤◌, List, [], ◌∷◌, ◌++◌, length, get_or, take, drop, set, sym, refl, ap, ◌∙◌, subst, add_assoc, mul_assoc, mul_comm, add-mul, add_comm, add-one, arith, pow_pos, pow-add, shl_lt, shl_exact, shr-shr, shr_lt}
+use Rattle.std.proofs.Common.{◌≡◌, ℕ, ◌+◌, ◌-◌, ◌*◌, ◌/◌, ◌%◌, ◌^◌, ◌<◌, ◌≤◌, List, [], ◌∷◌, ◌++◌, length, set, sym, ap, ◌∙◌, subst, add_comm, add-one, arith, pow_pos, pow-add, shl_exact, shr-shr, shr_lt}
 use lib.Bits.{bit_and, bit_or}
-use lib.Pow.{high, low, mod-pow-add, field, mod-mod-pow, split}
-use lib.Arith.{digits_lt, digits_div, digits_mod}
+use lib.Pow.{high, low, mod-pow-add, field, mod-mod-pow}
+use lib.Arith.{digits_lt}
 use Rattle.std.proofs.lemmas.Nat.{and_mask, or_shifted, one_shl, mod_below}
-use Rattle.std.proofs.lemmas.List.{take_more, take_more_set}
+use Rattle.std.proofs.lemmas.List.{take_more_set}
 use Rattle.layout.specs.Bits.{bytes}
 use Rattle.feed.specs.Cursor.{Wrote}
 

@@ -1,7 +1,7 @@
 // One record: an entry's bits, written and read.
 ghost use Rattle.std.specs.Prelude.{◌≡◌, ℕ, ◌+◌, ◌*◌, ◌<◌, ◌≤◌, length, Ok, OnOk};
 ghost use Rattle.layout.specs.Bits.{AreBytes, fields};
-ghost use Rattle.layout.specs.Layout.{code as code_of, widths as widthsOf, side_of, entry_of, size as size_of};
+ghost use Rattle.layout.specs.Layout.{code as code_of, widths as widths_of, side_of, entry_of, size as size_of};
 ghost use Rattle.layout.specs.Reading.{first_record};
 ghost use Rattle.layout.specs.Writing.{answer_with, output_with, answer, output};
 
@@ -21,7 +21,7 @@ fn side_of(bit: u32) -> Side
 fn entry_of(kind: Kind, src: &[u8]) -> Entry
     requires whole { length src.now ≡ size_of kind }
     requires bytes { AreBytes src.now }
-    ensures answer { result ≡ entry_of kind (fields src.now 4 (widthsOf kind)) }
+    ensures answer { result ≡ entry_of kind (fields src.now 4 (widths_of kind)) }
 {
     let time = bits(src, 4, 30);
     match kind {
@@ -96,9 +96,9 @@ pub(crate) fn decode(src: &[u8], number: usize, bit: usize) -> Result<Entry, Ref
 
 // Writes a record of this kind at the start of `out`, and answers its length.
 fn write(out: &mut [u8], kind: Kind, widths: &[u8], values: &[u32]) -> Result<usize, Refusal>
-    requires layout { (widths.now ≡ widthsOf kind) × (length values.now ≡ length (widthsOf kind)) }
-    ensures answer { result ≡ answer_with (widthsOf kind) values.now out.old }
-    ensures after { out.new ≡ output_with (code_of kind) (widthsOf kind) values.now out.old }
+    requires layout { (widths.now ≡ widths_of kind) × (length values.now ≡ length (widths_of kind)) }
+    ensures answer { result ≡ answer_with (widths_of kind) values.now out.old }
+    ensures after { out.new ≡ output_with (code_of kind) (widths_of kind) values.now out.old }
 {
     if !all_fit(widths, values) {
         return Err(Refusal::OutOfRange);

@@ -1,5 +1,5 @@
 -- What holds of every kind's layout.
-use Rattle.std.proofs.Common.{◌≡◌, ℕ, ◌+◌, ◌*◌, ◌%◌, ◌^◌, ◌<◌, ◌≤◌, List, refl, arith}
+use Rattle.std.proofs.Common.{◌≡◌, ℕ, ◌<◌, ◌≤◌, List, refl, arith}
 use Rattle.layout.specs.declared.kinds.Kind.{Kind}
 use Rattle.layout.specs.declared.kinds.Kind.TheVariants as k
 use Rattle.layout.specs.Bits.{total}

@@ -1,7 +1,7 @@
 -- The laws of writing and reading.
-use Rattle.std.proofs.Common.{◌≡◌, ℕ, zero, suc, ◌+◌, ◌-◌, ◌*◌, ◌/◌, ◌%◌, ◌^◌, ◌<◌, ◌≤◌, Bool, true, false, cond, ◌&&◌, eqb, ltb, ◌⊎◌, List, [], ◌∷◌, ◌++◌, length, get_or, take, drop, IfOk, Some, None, Ok, Err, Option, Result, sym, refl, ap, ◌∙◌, subst, inl, inr, arith, pow_pos, le-ltb, lt-ltb, eq-eqb, ne_eqb, eqb-true}
+use Rattle.std.proofs.Common.{◌≡◌, ℕ, ◌+◌, ◌/◌, ◌<◌, ◌≤◌, Bool, true, cond, eqb, ltb, List, [], ◌∷◌, ◌++◌, length, get_or, take, drop, IfOk, Some, None, Ok, Err, Option, Result, sym, refl, ap, ◌∙◌, subst, inl, inr, arith, le-ltb, lt-ltb, eq-eqb, ne_eqb}
 use Rattle.std.proofs.lemmas.Nat.{mod_below}
-use Rattle.std.proofs.lemmas.Bool.{and_parts, and_from, cond-true, cond-false, cases_lt, cases_eq}
+use Rattle.std.proofs.lemmas.Bool.{cond-true, cond-false, cases_lt, cases_eq}
 use Rattle.std.proofs.lemmas.List.{get_or_append_left, get_or-take, take_at, length-append, length-take-le, take-append-drop}
 use Rattle.entry.specs.declared.Side.{Side}
 use Rattle.entry.specs.declared.Side.TheVariants.{Buy, Sell}
@@ -13,15 +13,15 @@ use Rattle.entry.specs.Refusals.{told}
 use Rattle.layout.specs.declared.kinds.Kind.{Kind}
 use Rattle.layout.specs.declared.kinds.Kind.TheVariants as k
 use Rattle.layout.specs.Bits.{AreBytes, field, fields, fit}
-use Rattle.layout.specs.Layout.{code, widths, kind_of, bit, side_of, values, entry_of, kind_from, bits_for, spare_for, bytes_for, size, fits, record_with, record_of, feed_of}
-use Rattle.layout.specs.Reading.{record_as, first_record, some_of, next}
+use Rattle.layout.specs.Layout.{code, widths, kind_of, bit, side_of, values, entry_of, kind_from, bits_for, spare_for, bytes_for, size, fits, record_with, record_of}
+use Rattle.layout.specs.Reading.{record_as, first_record}
 use Rattle.layout.specs.Laws.{NoRecord, ToldOf}
 use Rattle.layout.specs.Writing.{answer, output}
 use Rattle.layout.proofs.Written.{written_ok}
 use Rattle.layout.proofs.EachKind.{code_lt, some_bytes}
 use Rattle.layout.proofs.Numbers.{bytes_take}
-use Rattle.layout.proofs.Back.{fields_fit, record_back, record_bytes, record_code, record_spare, record_fields, length_record}
-use Rattle.layout.proofs.Decoded.{Read, read}
+use Rattle.layout.proofs.Back.{fields_fit, record_back, record_code, record_spare, record_fields, length_record}
+use Rattle.layout.proofs.Decoded.{read}
 
 pub kind_back : (kind : Kind) → kind_from (code kind) ≡ Some kind
 kind_back k.Clock = refl

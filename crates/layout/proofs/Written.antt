@@ -1,10 +1,10 @@
 -- A record as it is written.
-use Rattle.std.proofs.Common.{◌≡◌, ℕ, ◌+◌, ◌*◌, ◌/◌, ◌^◌, ◌<◌, ◌≤◌, Bool, true, false, cond, ltb, List, ◌++◌, length, take, drop, Ok, Err, Result, sym, refl, ap, ◌∙◌, inl, inr, add-zero, div-one, arith, le-ltb, lt-ltb}
-use Rattle.std.proofs.lemmas.List.{take-append-drop, take_at}
+use Rattle.std.proofs.Common.{◌≡◌, ℕ, ◌*◌, ◌^◌, ◌<◌, ◌≤◌, Bool, true, false, cond, ltb, List, ◌++◌, length, take, drop, Ok, Err, Result, sym, ap, ◌∙◌, inl, inr, arith, le-ltb, lt-ltb}
+use Rattle.std.proofs.lemmas.List.{take_at}
 use Rattle.std.proofs.lemmas.Bool.{cases_Bool}
 use Rattle.entry.specs.declared.refusals.Refusal.{Refusal}
 use Rattle.entry.specs.declared.refusals.Refusal.TheVariants as why
-use Rattle.layout.specs.Bits.{bytes, fit, packed}
+use Rattle.layout.specs.Bits.{fit, packed}
 use Rattle.entry.specs.declared.Entry.{Entry}
 use Rattle.layout.specs.Layout.{code, widths, kind_of, values, size, fits, bytes_for, spare_for, record_with, record_of}
 use Rattle.layout.specs.Writing.{answer_with, output_with, placed, answer, output}

@@ -1,5 +1,5 @@
 -- A record of each kind, written out in hexadecimal, and what some bytes are refused with.
-use Rattle.std.specs.Prelude.{◌≡◌, ℕ, false, List, [], ◌∷◌, Some, Ok, Err}
+use Rattle.std.specs.Prelude.{◌≡◌, false, [], ◌∷◌, Some, Ok, Err}
 use Rattle.entry.specs.declared.Side.TheVariants.{Buy, Sell}
 use Rattle.entry.specs.declared.Entry.TheVariants as e
 use Rattle.entry.specs.declared.refusals.Refusal.TheVariants as why

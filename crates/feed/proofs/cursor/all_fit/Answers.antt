@@ -1,11 +1,11 @@
-use Rattle.std.proofs.Common.{◌≡◌, ℕ, ◌+◌, ◌^◌, ◌<◌, Bool, true, false, ◌&&◌, List, length, get_or, drop, sym, refl, ap, ◌∙◌, arith}
+use Rattle.std.proofs.Common.{◌≡◌, ℕ, ◌+◌, ◌<◌, Bool, true, ◌&&◌, List, length, get_or, drop, sym, ap, ◌∙◌, arith}
 use Rattle.std.proofs.lemmas.List.{at_drop_all}
 use Rattle.layout.specs.Bits.{fit}
 use Rattle.feed.proofs.Fields.{narrow_more, fit_more, wide, slim}
 use Rattle.feed.proofs.cursor.all_fit.Goals as goal
 
-pub overflow-shr-values : goal.overflow-shr-values
-overflow-shr-values c = omega (arith, (narrow_more c.args.widths.now c.loop-i.i c.loop-i-test.true c.loop-i.invariant.0).0)
+pub overflow_shr-values : goal.overflow_shr-values
+overflow_shr-values c = omega (arith, (narrow_more c.args.widths.now c.loop-i.i c.loop-i-test.true c.loop-i.invariant.0).0)
 
 pub returns-then-values-i-ne0 : goal.returns-then-values-i-ne0
 returns-then-values-i-ne0 c =

@@ -1,7 +1,6 @@
-use Rattle.std.proofs.Common.{◌≡◌, ℕ, ◌+◌, ◌-◌, ◌*◌, ◌/◌, ◌%◌, ◌^◌, ◌<◌, ◌≤◌, length, take, drop, set, sym, refl, ap, ◌∙◌, subst, arith}
-use lib.Bits.{bit_or, bit_and}
+use Rattle.std.proofs.Common.{◌≡◌, ℕ, ◌+◌, ◌-◌, ◌*◌, ◌%◌, ◌^◌, ◌<◌, length, drop, sym, refl, ap, ◌∙◌, subst, arith}
+use lib.Bits.{bit_or}
 use Rattle.std.proofs.lemmas.List.{drop-set-lt, drop-drop}
-use Rattle.feed.specs.Cursor.{Wrote}
 use Rattle.feed.proofs.Shifts.{shifted, masked, joined_lt, put_start, put_step, top_lt, mod_lt}
 use Rattle.feed.proofs.cursor.put.Goals as goal
 
@@ -12,8 +11,8 @@ loop-held-init c =
     let small = joined_lt c.args.from.rest c.args.from.held c.args.width c.args.value c.requires.start.1 c.requires.field.1 in
     (omega arith, refl, subst (λ (x : ℕ). x < 2 ^ (c.args.from.held + c.args.width)) (sym e) small, (λ n p. p), refl)
 
-pub overflow-cast-out-in-loop-held : goal.overflow-cast-out-in-loop-held
-overflow-cast-out-in-loop-held c = record { fits = top_lt c.loop-held.held 8 c.loop-held.rest c.loop-held-test.true c.loop-held.invariant.2 }
+pub overflow_cast-out-in-loop-held : goal.overflow_cast-out-in-loop-held
+overflow_cast-out-in-loop-held c = record { fits = top_lt c.loop-held.held 8 c.loop-held.rest c.loop-held-test.true c.loop-held.invariant.2 }
 
 pub loop-held-preserved : goal.loop-held-preserved
 loop-held-preserved c =

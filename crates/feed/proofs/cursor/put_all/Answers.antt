@@ -1,5 +1,5 @@
-use Rattle.std.proofs.Common.{◌≡◌, ℕ, ◌+◌, ◌-◌, ◌*◌, ◌^◌, ◌<◌, ◌≤◌, List, length, get_or, drop, sym, refl, ap, ◌∙◌, subst, arith}
-use Rattle.std.proofs.lemmas.List.{drop-drop, at_drop_all}
+use Rattle.std.proofs.Common.{◌≡◌, ℕ, ◌+◌, ◌*◌, ◌^◌, ◌<◌, List, length, get_or, drop, sym, ◌∙◌, subst, arith}
+use Rattle.std.proofs.lemmas.List.{at_drop_all}
 use Rattle.layout.specs.Bits.{total, packed}
 use Rattle.feed.specs.Cursor.{Wrote}
 use Rattle.feed.proofs.Fields.{total_more, narrow_more, fit_parts, packed_more, drop_further}

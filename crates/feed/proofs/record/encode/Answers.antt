@@ -3,9 +3,9 @@ use Rattle.feed.proofs.record.encode.Goals as goal
 
 pub returns : goal.returns
 returns c =
-    let wrote = c.write-entry.ensures in
+    let wrote = c.write_entry.ensures in
     record {
       answer = wrote.answer;
       after = wrote.after;
-      back = output_read c.args.entry c.args.out.now c.write-entry.new.out c.write-entry.result wrote.answer wrote.after;
+      back = output_read c.args.entry c.args.out.now c.write_entry.new.out c.write_entry.result wrote.answer wrote.after;
     }

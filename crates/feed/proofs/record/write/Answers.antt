@@ -1,4 +1,4 @@
-use Rattle.std.proofs.Common.{◌≡◌, ℕ, ◌+◌, ◌-◌, ◌*◌, ◌%◌, ◌^◌, ◌<◌, ◌≤◌, Bool, true, List, length, drop, Ok, sym, refl, ap, ◌∙◌, subst, mod-eq_of_lt, arith}
+use Rattle.std.proofs.Common.{◌≡◌, ℕ, ◌+◌, ◌-◌, ◌*◌, ◌%◌, ◌^◌, ◌<◌, ◌≤◌, Bool, true, List, length, Ok, sym, refl, ap, ◌∙◌, subst, mod-eq_of_lt, arith}
 use Rattle.layout.specs.Bits.{total, fit, packed}
 use Rattle.feed.specs.Cursor.{Wrote}
 use Rattle.layout.specs.Layout.{code, widths, bytes_for}
@@ -12,15 +12,15 @@ use Rattle.feed.proofs.record.write.Goals as goal
 fit_by : (b : Bool) (xs ws vs : List ℕ) → xs ≡ ws → b ≡ fit xs vs → fit ws vs ≡ b
 fit_by b xs ws vs e p = ap (λ (x : List ℕ). fit x vs) (sym e) ∙ sym p
 
-pub returns-then-not-all-fit : goal.returns-then-not-all-fit
-returns-then-not-all-fit c =
-    let wide = fit_by _ _ _ _ c.requires.layout.0 c.all-fit.ensures.answer ∙ c.if-not-all-fit.true in
+pub returns-then-not-all_fit : goal.returns-then-not-all_fit
+returns-then-not-all_fit c =
+    let wide = fit_by _ _ _ _ c.requires.layout.0 c.all_fit.ensures.answer ∙ c.if-not-all_fit.true in
     let refused = too_wide (code c.args.kind) (widths c.args.kind) c.args.values.now c.args.out.now wide in
     record { answer = refused.0; after = refused.1 }
 
 pub returns-then-out-size : goal.returns-then-out-size
 returns-then-out-size c =
-    let fitting = fit_by _ _ _ _ c.requires.layout.0 c.all-fit.ensures.answer ∙ c.if-not-all-fit.false in
+    let fitting = fit_by _ _ _ _ c.requires.layout.0 c.all_fit.ensures.answer ∙ c.if-not-all_fit.false in
     let refused = too_short (code c.args.kind) (widths c.args.kind) c.args.values.now c.args.out.now fitting (omega arith) in
     record { answer = refused.0; after = refused.1 }
 
@@ -30,7 +30,7 @@ returns c =
     let vs = c.args.values.now in
     let out = c.args.out.now in
     let fitting : fit (widths c.args.kind) c.args.values.now ≡ true =
-    fit_by _ _ _ _ c.requires.layout.0 c.all-fit.ensures.answer ∙ c.if-not-all-fit.false in
+    fit_by _ _ _ _ c.requires.layout.0 c.all_fit.ensures.answer ∙ c.if-not-all_fit.false in
     let room : bytes_for (widths c.args.kind) ≤ length c.args.out.now = omega arith in
     let bits : total c.args.widths.now ≡ total (widths c.args.kind) = ap total c.requires.layout.0 in
     let start : Wrote c.args.out.now 0 4 c.code.result c.code.result =
@@ -38,8 +38,8 @@ returns c =
     let number : packed c.code.result c.args.widths.now c.args.values.now ≡ packed (code c.args.kind) (widths c.args.kind) c.args.values.now =
     ap (λ (x : ℕ). packed x c.args.widths.now c.args.values.now) c.code.ensures.answer
     ∙ ap (λ (x : List ℕ). packed (code c.args.kind) x c.args.values.now) c.requires.layout.0 in
-    let wrote = c.put-whole.ensures.wrote _ (c.put-all-end.ensures.wrote c.code.result start) in
-    let pad : ℕ = (8 - c.put-all-end.result.held) % 8 in
+    let wrote = c.put-whole.ensures.wrote _ (c.put_all-end.ensures.wrote c.code.result start) in
+    let pad : ℕ = (8 - c.put_all-end.result.held) % 8 in
     record {
       answer = ap (λ (x : ℕ). Ok x) c.size-size.ensures.answer ∙ sym (accepted (code c.args.kind) ws vs out fitting room);
       after =
@@ -47,5 +47,5 @@ returns c =
           (omega arith) (omega arith) (omega arith)
           (subst (λ (x : ℕ). Wrote c.put-whole.new.out c.put-whole.result.at c.put-whole.result.held c.put-whole.result.rest (x * 2 ^ pad + 0)) number wrote)
           (c.put-whole.ensures.kept
-          ∙ drop_further c.put-all-end.new.out c.args.out.now c.put-all-end.result.at c.put-whole.result.at (omega arith) c.put-all-end.ensures.kept);
+          ∙ drop_further c.put_all-end.new.out c.args.out.now c.put_all-end.result.at c.put-whole.result.at (omega arith) c.put_all-end.ensures.kept);
     }

@@ -1,5 +1,5 @@
 -- What was read so far goes before what is still to be read.
-use Rattle.std.proofs.Common.{◌≡◌, ℕ, ◌-◌, List, ◌++◌, length, vec_items, Option}
+use Rattle.std.proofs.Common.{◌≡◌, ◌-◌, List, ◌++◌, length, vec_items, Option}
 use Rattle.entry.specs.declared.Entry.{Entry}
 use Rattle.entry.specs.declared.refusals.Refusal.{Refusal}
 use Rattle.layout.specs.Laws.{Gives}

@@ -1,7 +1,7 @@
-use Rattle.std.proofs.Common.{◌≡◌, ℕ, ◌+◌, ◌-◌, ◌*◌, ◌/◌, ◌%◌, ◌^◌, ◌<◌, ◌≤◌, length, get_or, take, sym, refl, ap, ◌∙◌, subst, lt_of_lt_of_le, arith, pow_pos, pow_mono}
+use Rattle.std.proofs.Common.{◌≡◌, ℕ, ◌+◌, ◌-◌, ◌*◌, ◌/◌, ◌%◌, ◌^◌, ◌<◌, length, get_or, take, sym, ap, ◌∙◌, subst, lt_of_lt_of_le, arith, pow_pos, pow_mono}
 use lib.Bits.{bit_and, bit_or}
 use Rattle.std.proofs.lemmas.Nat.{and_mask, or_shifted, one_shl, mod_below, shl_whole}
-use Rattle.layout.specs.Bits.{spelt, AreBytes}
+use Rattle.layout.specs.Bits.{spelt}
 use Rattle.layout.proofs.Numbers.{spelt-more, word_more, field_in}
 use Rattle.feed.proofs.words.bits.Goals as goal
 
@@ -16,10 +16,10 @@ loop-i-preserved c =
     let small : c.loop-i.word < 2 ^ 32 =
     subst (λ (x : ℕ). x < 2 ^ 32) (sym c.loop-i.invariant) (lt_of_lt_of_le (mod_below p (2 ^ (8 * d)) (pow_pos (8 * d))) (pow_mono {i = 8 * d} {j = 32} (omega arith))) in
     let e : bit_or (c.loop-i.word * 256 % 18446744073709551616) b ≡ c.loop-i.word * 256 + b =
-    ap (λ (x : ℕ). bit_or x b) (shl_whole c.loop-i.word 32 8 64 small (omega arith)) ∙ or_shifted c.loop-i.word 8 b (c.type-inv.src c.loop-i.i).fits in
+    ap (λ (x : ℕ). bit_or x b) (shl_whole c.loop-i.word 32 8 64 small (omega arith)) ∙ or_shifted c.loop-i.word 8 b (c.type_inv.src c.loop-i.i).fits in
     e
     ∙ (ap (λ (x : ℕ). x * 256 + b) c.loop-i.invariant
-    ∙ (sym (word_more p d b (c.type-inv.src c.loop-i.i).fits)
+    ∙ (sym (word_more p d b (c.type_inv.src c.loop-i.i).fits)
     ∙ (ap (λ (x : ℕ). x % 2 ^ (8 * (d + 1))) (sym (spelt-more c.args.src.now c.loop-i.i lt))
     ∙ ap (λ (x : ℕ). spelt (take (c.loop-i.i + 1) c.args.src.now) % 2 ^ (8 * x)) (sym more))))
 

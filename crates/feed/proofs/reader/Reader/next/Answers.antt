@@ -1,4 +1,4 @@
-use Rattle.std.proofs.Common.{◌≡◌, ℕ, ◌+◌, ◌-◌, ◌≤◌, length, Ok, Err, sym, refl, ap, ◌∙◌, subst, arith}
+use Rattle.std.proofs.Common.{◌≡◌, ℕ, ◌+◌, ◌-◌, ◌≤◌, length, Ok, Err, refl, ap, ◌∙◌, arith}
 use Rattle.std.proofs.lemmas.List.{take_rest}
 use Rattle.layout.specs.Layout.{kind_of, size}
 use Rattle.layout.proofs.EachKind.{some_bytes}
@@ -6,15 +6,15 @@ use Rattle.layout.proofs.Decoded.{read_within, next_by}
 use Rattle.layout.proofs.Feeds.{faithful}
 use Rattle.feed.proofs.reader.Reader.next.Goals as goal
 
-pub invariant-of-self : goal.invariant-of-self
-invariant-of-self c =
+pub invariant_of-self : goal.invariant_of-self
+invariant_of-self c =
     let feed = c.args.self.now.feed.now in
     let n : c.size.result ≡ size (kind_of c.in-Ok.entry) = c.size.ensures.answer ∙ ap size c.of.ensures.answer in
     let within = c.args.self.now.within in
     let long : size (kind_of c.in-Ok.entry) ≤ length c.args.self.now.feed.now - c.args.self.now.at =
     read_within feed _ c.args.self.now.at _ _ c.in-Ok.entry (take_rest feed c.args.self.now.at) c.in-Ok.ensures.answer in
     let some = some_bytes (kind_of c.in-Ok.entry) in
-    ((within.0, omega arith, omega arith), tt)
+    record { within = (within.0, omega arith, omega arith) }
 
 pub returns-in-Ok : goal.returns-in-Ok
 returns-in-Ok c =
