@@ -1,10 +1,16 @@
 -- What a comparison of words says.
 use Rattle.std.proofs.Common.{◌≡◌, ℕ, Bool, true, false, cond, Some, None, sym, ap, ◌∙◌, arith}
-use Rattle.std.proofs.lemmas.Slice.Eq.{bytes_eq-Decides}
+use Rattle.std.proofs.lemmas.Bool.Decides.{Decides-eqb}
+use Rattle.std.proofs.lemmas.Slice.Eq.{bytes_eq-Decides, slice_eq-Decides}
+use Rattle.std.specs.Bool.{Decides}
 use Rattle.std.specs.Str.{bytes_eq}
 use Rattle.script.specs.Spelling.{Bytes}
 use Rattle.script_words.specs.Reading.{is_first}
 use Rattle.script_words.proofs.Cuts.{other_not}
+
+-- what a comparison that was made says of the two words
+pub compared : (v w : Bytes) (r : Bool) → r ≡ bytes_eq v w → Decides r (v ≡ w)
+compared v w r e = slice_eq-Decides Decides-eqb v w r e
 
 -- what a test that failed decides does not hold
 pub fails : {P : Type 0} (b : Bool) → b ≡ false → (P → b ≡ true) → P → ⊥

@@ -1,7 +1,7 @@
 // The words of a line, taken one after another.
 ghost use Rattle.std.specs.Prelude.{◌≡◌, ◌-◌, [], ◌∷◌, MatchOption, MatchResult, ◌≢◌};
 ghost use Rattle.script_words.specs.Words.{is_blank, uncommented, words_of, left, first as before, Run};
-ghost use Rattle.script_words.specs.Reading.{answered, one, figure_to, is_first, number as number_of, figure as figureOf, code as code_of, side as side_of, params as params_of};
+ghost use Rattle.script_words.specs.Reading.{answered, one, figure_to, is_first, number as number_of, figure as figure_of, code as code_of, side as side_of, params as params_of};
 
 use entry::{Params, Side};
 use script::faults::LineFault;
@@ -84,7 +84,7 @@ impl<'a> Words<'a> {
 
     /// Takes the next word, which has to be a figure.
     pub fn figure(&mut self, name: &'static str) -> Result<u32, LineFault<'a>>
-        ensures answer { answered result (left self.new) ≡ figureOf (left self.old) }
+        ensures answer { answered result (left self.new) ≡ figure_of (left self.old) }
     {
         self.figure_to(name, u32::MAX)
     }

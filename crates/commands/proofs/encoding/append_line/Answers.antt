@@ -13,6 +13,6 @@ returns-in-Err-append c =
     sym c.in-Ok.ensures.answer ∙ ap (λ o. entry_parsed {E = LineFault} (Ok o)) c.in-Some.is ∙ sym c.in-Some-entry.ensures.answer in
     record {
       answer =
-          subst (Flawed feed (entry_of c.args.line.now)) (sym c.flaw-of.ensures.answer)
+          subst (Flawed feed (entry_of c.args.line.now)) (sym c.flaw_of.ensures.answer)
           (flawed feed c.in-Some-entry.entry (entry_of c.args.line.now) is c.in-Err-append.fault c.in-Err-append.ensures.answer);
     }

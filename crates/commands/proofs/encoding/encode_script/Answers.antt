@@ -5,13 +5,13 @@ use Rattle.script_words.proofs.Split.{lines_few}
 use Rattle.commands.proofs.Sofar.{number_room, records_few, one_more, fails_here, flag_is, flag_small}
 use Rattle.commands.proofs.encoding.encode_script.Goals as goal
 
-pub overflow-add-number : goal.overflow-add-number
-overflow-add-number c =
+pub overflow_add-number : goal.overflow_add-number
+overflow_add-number c =
     let room = number_room c.loop-line.invariant c.in-Some.line.now (to_come c.next.new.self) c.in-Some.ensures.answer in
     omega (arith, room, lines_few c.args.script.now)
 
-pub overflow-add-records : goal.overflow-add-records
-overflow-add-records c =
+pub overflow_add-records : goal.overflow_add-records
+overflow_add-records c =
     let room = number_room c.loop-line.invariant c.in-Some.line.now (to_come c.next.new.self) c.in-Some.ensures.answer in
     omega (arith, room, records_few c.loop-line.invariant, lines_few c.args.script.now, c.from-records.ensures, flag_small c.in-Ok.added)
 

@@ -7,6 +7,6 @@ pub returns : goal.returns
 returns c =
     record {
       answer =
-          subst (λ word. IfOk c.format.result (λ text. string_bytes text ≡ counted_with word c.args.records c.args.bytes)) c.record-word-word.ensures.answer
+          subst (λ word. IfOk c.format.result (λ text. string_bytes text ≡ counted_with word c.args.records c.args.bytes)) c.record_word-word.ensures.answer
           c.format.ensures.ok;
     }

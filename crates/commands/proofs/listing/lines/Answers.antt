@@ -10,11 +10,11 @@ pub loop-entry-preserved : goal.loop-entry-preserved
 loop-entry-preserved c =
     let es = c.args.entries.now in
     let i = c.loop-entry.entry-index in
-    let line = c.as-str.result.now in
+    let line = c.as_str.result.now in
     let more = take_more es i (Clock 0) c.loop-entry-test.true in
-    c.in-ok-push-str.ensures.bytes
+    c.in_ok-push_str.ensures.bytes
     ∙ ap (λ (l : List ℕ). l ++ line) c.loop-entry.invariant
-    ∙ ap (λ (l : List ℕ). lines_text (take i es) ++ l) (c.as-str.ensures.value ∙ c.in-ok-line.ensures.ok)
+    ∙ ap (λ (l : List ℕ). lines_text (take i es) ++ l) (c.as_str.ensures.value ∙ c.in_ok-line.ensures.ok)
     ∙ sym (lines_push (take i es) (get_or es i (Clock 0)))
     ∙ ap lines_text (sym more)
 

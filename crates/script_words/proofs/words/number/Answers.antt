@@ -7,5 +7,5 @@ use Rattle.script_words.proofs.words.number.Goals as goal
 
 pub returns : goal.returns
 returns c =
-    let plus = starts_char 43 c.args.word.now _ c.starts-with.ensures.cases (omega arith) (omega arith) in
-    record { answer = c.ok.ensures.value ∙ number_read c.args.word.now c.parse.result c.parse.ensures.value.0 (fails _ c.if-starts-with.false plus.1) }
+    let plus = starts_char 43 c.args.word.now _ c.starts_with.ensures.cases (omega arith) (omega arith) in
+    record { answer = c.ok.ensures.value ∙ number_read c.args.word.now c.parse.result c.parse.ensures.value.0 (fails _ c.if-starts_with.false plus.1) }

@@ -5,8 +5,8 @@ use Rattle.script_words.specs.Lines.{lines_of}
 use Rattle.script_words.proofs.Split.{lines_none, lines-first, lines_last}
 use Rattle.script_words.proofs.lines.Lines.next.Goals as goal
 
-pub returns-then-is-empty : goal.returns-then-is-empty
-returns-then-is-empty c = record { answer = lines_none c.args.self.now.rest.now (true-eqb _ 0 c.if-is-empty.ensures) }
+pub returns-then-is_empty : goal.returns-then-is_empty
+returns-then-is_empty c = record { answer = lines_none c.args.self.now.rest.now (true-eqb _ 0 c.if-is_empty.ensures) }
 
 pub returns-in-Some : goal.returns-in-Some
 returns-in-Some c =
@@ -16,5 +16,5 @@ returns-in-Some c =
 pub returns-in-None : goal.returns-in-None
 returns-in-None c =
     let whole = split_parts 10 c.args.self.now.rest.now None c.in-None.ensures.cases (omega arith) in
-    let some : 0 < length c.args.self.now.rest.now = omega (arith, false-eqb _ 0 c.if-is-empty.ensures) in
+    let some : 0 < length c.args.self.now.rest.now = omega (arith, false-eqb _ 0 c.if-is_empty.ensures) in
     record { answer = lines_last c.args.self.now.rest.now some whole }
