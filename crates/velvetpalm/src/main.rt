@@ -8,6 +8,7 @@ use day::report::Report;
 use day::run::run_script;
 use std::alloc::AllocError;
 use std::fmt::Display;
+use std::process::ExitCode;
 use std::{env, fs, io};
 
 /// Why the program ends with status 1.
@@ -124,10 +125,14 @@ fn run(rt: &HostRuntime) -> Result<(), Failure> {
     }
 }
 
-fn main(rt: HostRuntime) -> Result<(), Failure> {
+fn main(rt: HostRuntime) -> ExitCode {
     match run(&rt) {
-        Err(Failure::Outside(why)) => Err(blame(&rt, "velvetpalm", why)),
-        other => other,
+        Ok(()) => ExitCode::SUCCESS,
+        Err(Failure::Told) => ExitCode::FAILURE,
+        Err(Failure::Outside(why)) => {
+            let _ = blame(&rt, "velvetpalm", why);
+            ExitCode::FAILURE
+        }
     }
 }
 
