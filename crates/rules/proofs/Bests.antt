@@ -1,22 +1,22 @@
 -- A side's levels against the history: the first is the best, and what crossing, ripeness and a leave read off it.
-use Rattle.std.proofs.Common.{◌≡◌, ℕ, zero, suc, ◌+◌, ◌-◌, ◌<◌, ◌≤◌, Bool, true, false, cond, not, ◌&&◌, eqb, ltb, leb, ◌⊎◌, List, [], ◌∷◌, Some, None, Decides, Option, sym, refl, ap, ◌∙◌, subst, inl, inr, arith}
-use Rattle.std.proofs.lemmas.Bool.Decides.{nat_tests, Decides-not, Decides-ltb, Decides-and, Decides-eqb, not_from_Decides, leb_tells}
-use Rattle.std.proofs.lemmas.Bool.{cases_eq, cases_Bool, cond_both, cond-true, cond-false, eq-eqb, ne_eqb, and_parts, and_from, both_ways, leb-true, le-leb, eqb-true}
+use Rattle.std.proofs.Common.{◌≡◌, ℕ, ◌-◌, ◌<◌, Bool, true, false, not, ◌&&◌, eqb, ltb, leb, List, [], ◌∷◌, Some, None, Decides, Option, sym, refl, ap, ◌∙◌, subst, inl, inr, arith}
+use Rattle.std.proofs.lemmas.Bool.Decides.{nat_tests, Decides-ltb, Decides-and, not_from_Decides}
+use Rattle.std.proofs.lemmas.Bool.{cases_eq, cond_both, cond-true, cond-false, eq-eqb, ne_eqb, and_parts, and_from, both_ways, leb-true, le-leb, eqb-true}
 use Rattle.entry.specs.declared.Side.{Side}
 use Rattle.entry.specs.declared.Side.TheVariants.{Buy, Sell}
 use Rattle.entry.specs.declared.Entry.{Entry}
 use Rattle.entry.specs.declared.Entry.TheVariants.{Leave}
 use Rattle.board.specs.declared.levels.Level.{Level}
 use Rattle.board.specs.Book.{better, level_at, first}
-use Rattle.board.specs.Sound.{Behind, Sorted}
+use Rattle.board.specs.Sound.{Sorted}
 use Rattle.rules.specs.declared.figures.Forerunner.{Forerunner}
 use Rattle.rules.specs.declared.figures.Forerunners.{Forerunners}
 use Rattle.rules.specs.Readings.{full_time, credit_of, forerunner_of}
-use Rattle.rules.specs.Checks.{meets, other_side}
+use Rattle.rules.specs.Checks.{meets}
 use Rattle.rules.specs.Effects.{with_forerunner, ended}
-use Rattle.rules.specs.History.{Opening, at, same, other, Better, left, standing, stands_since, shown, level, Best, Clear, Ends, gone, Forerun, Credits, Requires, Unbroken, Ripe}
+use Rattle.rules.specs.History.{Opening, other, Better, left, standing, stands_since, shown, level, Best, Clear, Forerun, Credits, Requires, Ripe}
 use Rattle.rules.specs.Promise.{Timely}
-use Rattle.rules.proofs.Sides.{better_is, better_trans, better_not_self, better_differs, better_or, same_self}
+use Rattle.rules.proofs.Sides.{better_is, better_trans, better_or, same_self}
 use Rattle.rules.proofs.Boards.{none_before}
 use Rattle.rules.proofs.Past.{unbroken_aged, aged_unbroken, one-best, one-forerunner, one-required}
 

@@ -1,5 +1,5 @@
 -- What an order more or less leaves at each price, and that it keeps the levels in order.
-use Rattle.std.proofs.Common.{◌≡◌, ℕ, ◌<◌, ◌≤◌, Bool, true, false, cond, eqb, ltb, leb, ◌⊎◌, List, [], ◌∷◌, Some, None, Option, sym, refl, ap, ◌∙◌, inl, inr, arith}
+use Rattle.std.proofs.Common.{◌≡◌, ℕ, true, false, eqb, List, [], ◌∷◌, Some, None, Option, sym, refl, ap, ◌∙◌, inl, inr, arith}
 use Rattle.std.proofs.lemmas.Bool.Decides.{nat_tests}
 use Rattle.std.proofs.lemmas.Bool.{eqb-true, eqb-false, eq-eqb, ne_eqb, cond_both, cond-true, cond-false, cases_Bool, both_ways}
 use Rattle.entry.specs.declared.Side.{Side}
@@ -9,7 +9,7 @@ use Rattle.board.specs.Levels.{new_level, joined, left, single, less_answer}
 use Rattle.board.specs.Book.{Book, better, level_at, levels_of, with_levels}
 use Rattle.board.specs.Calls.{added, taken}
 use Rattle.board.specs.Sound.{Behind, Sorted}
-use Rattle.rules.specs.History.{Better, other}
+use Rattle.rules.specs.History.{other}
 use Rattle.rules.proofs.Sides.{better_is, better_trans, better_differs, better_or}
 
 -- a level with one order more, or a new one; a level with one order less, if any is left

@@ -1,14 +1,11 @@
 -- Each accepted entry keeps the day's figures to the history: references, marks and forerunners.
-use Rattle.std.proofs.Common.{◌≡◌, ℕ, ◌+◌, ◌-◌, ◌*◌, ◌<◌, ◌≤◌, Bool, true, false, cond, ◌||◌, eqb, ltb, ◌⊎◌, List, [], ◌∷◌, Decides, sym, refl, ap, ◌∙◌, subst, inl, inr, arith}
-use Rattle.std.proofs.lemmas.Bool.Decides.{nat_tests, Decides-or, Decides-like, Decides-ltb}
+use Rattle.std.proofs.Common.{◌≡◌, ℕ, ◌*◌, Bool, false, ◌||◌, eqb, ltb, ◌⊎◌, List, ◌∷◌, Decides, sym, refl, ap, ◌∙◌, subst, inl, inr, arith}
+use Rattle.std.proofs.lemmas.Bool.Decides.{nat_tests, Decides-or}
 use Rattle.std.proofs.lemmas.Bool.{cases_eq, cond_both, eqb-true, eqb-false, ne_eqb, both_ways, and_left}
 use Rattle.entry.specs.declared.Side.{Side}
-use Rattle.entry.specs.declared.Side.TheVariants.{Buy, Sell}
-use Rattle.entry.specs.declared.Params.{Params}
 use Rattle.entry.specs.declared.Entry.{Entry}
 use Rattle.entry.specs.declared.Entry.TheVariants.{Clock, Post, Leave, Trade, Parameters, Reference, Ruling}
 use Rattle.board.specs.Book.{levels_of, first}
-use Rattle.plan.specs.declared.slots.Session.{Session}
 use Rattle.plan.specs.declared.slots.Session.TheVariants.{Morning, Main, Evening, Weekend}
 use Rattle.plan.specs.declared.slots.Slot.{Slot}
 use Rattle.plan.specs.declared.slots.Slot.TheVariants.{NoSession, Free, Bounded}
@@ -16,11 +13,10 @@ use Rattle.plan.specs.Sessions.{session_of}
 use Rattle.plan.specs.Hours.{slot_at}
 use Rattle.rules.specs.declared.figures.Marks.{Marks}
 use Rattle.rules.specs.declared.figures.References.{References}
-use Rattle.rules.specs.declared.figures.Forerunners.{Forerunners}
 use Rattle.rules.specs.Readings.{lp_of, forerunner_of}
 use Rattle.rules.specs.Checks.{State}
 use Rattle.rules.specs.Effects.{params_after, entered, references_after, marked, marked_in, marks_after, ended, forerunners_after}
-use Rattle.rules.specs.History.{Opening, other, left, params, reference, lp, MainBounded, Far, FarTrade, Marked, above, below, Forerun, Ends, AreParams, InRange}
+use Rattle.rules.specs.History.{Opening, other, left, params, lp, MainBounded, Far, Marked, above, below, Forerun, AreParams, InRange}
 use Rattle.rules.specs.Promise.{Agrees, references}
 use Rattle.rules.proofs.Sides.{side_or, same-other}
 use Rattle.rules.proofs.Bests.{forerun-leave, forerunner_kept}

@@ -1,5 +1,5 @@
 -- From the answer and the state after a call, by equality, to what the call promises.
-use Rattle.std.proofs.Common.{◌≡◌, ℕ, suc, ◌+◌, ◌<◌, ◌≤◌, Bool, true, false, cond, ◌&&◌, leb, List, [], ◌∷◌, ◌++◌, length, take, drop, Ok, Err, Decides, Result, sym, refl, ap, ◌∙◌, subst, arith}
+use Rattle.std.proofs.Common.{◌≡◌, ℕ, suc, ◌<◌, ◌≤◌, Bool, true, false, List, [], ◌∷◌, ◌++◌, length, take, drop, Ok, Decides, sym, refl, ap, ◌∙◌, subst, arith}
 use Rattle.std.proofs.lemmas.Bool.Decides.{not_from_Decides}
 use Rattle.std.proofs.lemmas.List.{take_at, drop_at}
 use Rattle.std.proofs.lemmas.Bool.{cond-true, cond-false, le-leb, lt-leb, and_parts, false≢true}
@@ -9,17 +9,16 @@ use Rattle.entry.specs.declared.refusals.Refusal.TheVariants as why
 use Rattle.board.specs.declared.levels.Level.{Level}
 use Rattle.board.specs.Book.{Book, empty_book, none, is_empty}
 use Rattle.plan.specs.declared.slots.Window.{Window}
-use Rattle.plan.specs.Hours.{slot_at}
 use Rattle.rules.specs.declared.figures.OpenFigures.{OpenFigures}
 use Rattle.rules.specs.declared.figures.ClosedFigures.{ClosedFigures}
 use Rattle.rules.specs.declared.figures.TrailLine.{TrailLine}
-use Rattle.rules.specs.Readings.{static_of, dynamic_of, quotation_at}
-use Rattle.rules.specs.Checks.{State, Answer, both, number_of, must, on_time, last_time, priced, answer, static_answer, dynamic_answer}
+use Rattle.rules.specs.Readings.{static_of}
+use Rattle.rules.specs.Checks.{State, Answer, both, number_of, must, priced, answer, static_answer, dynamic_answer}
 use Rattle.rules.specs.Effects.{after}
-use Rattle.rules.specs.Runs.{lines, final, run_answer, applied, trail_after, Call}
+use Rattle.rules.specs.Runs.{lines, final, run_answer, applied, trail_after}
 use Rattle.rules.specs.Days.{open_answer, opened, closed}
-use Rattle.rules.specs.History.{Opening, OnTime, Check, passes, fails, Accepted, AreParams}
-use Rattle.rules.specs.Promise.{Agrees, Kept, KeptAll, NoLevel, OpenTable, StaticPair, DynamicPair, opening_of, start}
+use Rattle.rules.specs.History.{Opening, OnTime, Check, passes, fails, Accepted}
+use Rattle.rules.specs.Promise.{Kept, KeptAll, NoLevel, OpenTable, StaticPair, DynamicPair, opening_of}
 use Rattle.rules.specs.Calls.{Entered, Ran, Limited, StaticTold, DynamicTold, ClosedAs, Starts}
 use Rattle.rules.proofs.Tested.{decides_leb}
 use Rattle.rules.proofs.Tables.{last_row, passed, time_is}

@@ -1,11 +1,10 @@
 -- The worked examples.
-use Rattle.std.proofs.Common.{◌≡◌, ℕ, ◌+◌, ◌-◌, ◌<◌, ◌≤◌, Bool, true, false, cond, eqb, ltb, leb, ◌⊎◌, List, [], ◌∷◌, Some, None, Option, sym, refl, ap, ◌∙◌, subst, inl, inr, arith}
-use Rattle.std.proofs.lemmas.Bool.{cases_eq, cases_Bool, eq-eqb, ne_eqb, le-leb, leb-true, lt-ltb, false≢true, both_ways, and_parts, eqb-true, cases_lt, lt-leb}
+use Rattle.std.proofs.Common.{◌≡◌, ℕ, ◌+◌, ◌-◌, ◌<◌, ◌≤◌, [], ◌∷◌, Some, None, Option, refl, ap, subst, inl, inr, arith}
+use Rattle.std.proofs.lemmas.Bool.{cases_eq, ne_eqb, le-leb, lt-ltb, false≢true, cases_lt, lt-leb}
 use Rattle.std.proofs.lemmas.Bool.Decides.{nat_tests}
 use Rattle.entry.specs.declared.Side.{Side}
 use Rattle.entry.specs.declared.Side.TheVariants.{Buy, Sell}
-use Rattle.entry.specs.declared.Entry.{Entry}
-use Rattle.entry.specs.declared.Entry.TheVariants.{Clock, Post, Leave}
+use Rattle.entry.specs.declared.Entry.TheVariants.{Clock, Post}
 use Rattle.board.specs.declared.levels.Level.{Level}
 use Rattle.board.specs.Book.{level_at}
 use Rattle.plan.specs.declared.slots.Session.TheVariants.{Morning, Main}
@@ -15,9 +14,9 @@ use Rattle.rules.specs.declared.figures.Forerunner.{Forerunner}
 use Rattle.limits.specs.Rounded.{static_limits}
 use Rattle.rules.specs.Readings.{credit_of, dynamic_of}
 use Rattle.rules.specs.Promise.{Agrees, Opens, StaticPair, DynamicPair, start}
-use Rattle.rules.specs.History.{Opening, AreParams, standing, level, Best, Forerun, Ripe, Ripens, Quoted}
+use Rattle.rules.specs.History.{Opening, standing, level, Forerun, Ripe, Quoted}
 use Rattle.rules.specs.Worked.{opening, usual, ten, one_buy, better_gone, Worked}
-use Rattle.rules.proofs.Bests.{Shows, head_best, head_only, none_stands, ripens, ripe_yes, ripe_no}
+use Rattle.rules.proofs.Bests.{Shows, ripe_yes, ripe_no}
 use Rattle.rules.proofs.Tables.{by_table}
 use Rattle.rules.proofs.Whole.{started, static_pair, dynamic_pair}
 

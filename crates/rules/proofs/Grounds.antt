@@ -1,5 +1,5 @@
 -- The quotation: the ripe level that the day reads is the history's, and there is one only.
-use Rattle.std.proofs.Common.{◌≡◌, ℕ, ◌<◌, ◌≤◌, Bool, true, false, cond, eqb, ◌⊎◌, List, [], ◌∷◌, Some, None, Decides, Option, sym, refl, ap, ◌∙◌, subst, inl, inr, arith}
+use Rattle.std.proofs.Common.{◌≡◌, ℕ, Bool, cond, eqb, List, [], ◌∷◌, Some, None, Decides, Option, sym, refl, ◌∙◌, subst, inl, inr, arith}
 use Rattle.std.proofs.lemmas.Bool.{cond_both, eqb-true, eqb-false, cases_eq}
 use Rattle.entry.specs.declared.Side.{Side}
 use Rattle.entry.specs.declared.Side.TheVariants.{Buy, Sell}
@@ -11,7 +11,7 @@ use Rattle.rules.specs.declared.figures.OpenFigures.{OpenFigures}
 use Rattle.rules.specs.Readings.{or_else, forerunner_of, ripe_of, quotation_at}
 use Rattle.rules.specs.Checks.{State}
 use Rattle.rules.specs.Effects.{quotation_after}
-use Rattle.rules.specs.History.{Opening, Uncrossed, Forerun, Ripe, Ripens, Grounds, Quoted, QuotedAt}
+use Rattle.rules.specs.History.{Opening, Uncrossed, Forerun, Ripe, Ripens, Grounds, QuotedAt}
 use Rattle.rules.specs.Promise.{Timely, Agrees}
 use Rattle.rules.proofs.Past.{one-best}
 use Rattle.rules.proofs.Bests.{Shows, none_stands, ripens, ripe_yes, ripe_no}

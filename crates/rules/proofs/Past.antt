@@ -1,11 +1,11 @@
 -- The history alone: since when a level stands, and that best, forerunner and required time are one.
-use Rattle.std.proofs.Common.{◌≡◌, ℕ, zero, suc, ◌+◌, ◌-◌, ◌<◌, ◌≤◌, Bool, true, false, cond, eqb, ◌⊎◌, List, [], ◌∷◌, Some, None, Option, sym, refl, ap, ◌∙◌, inl, inr, arith}
+use Rattle.std.proofs.Common.{◌≡◌, ℕ, suc, ◌+◌, ◌-◌, ◌<◌, ◌≤◌, true, false, List, [], ◌∷◌, Some, None, Option, sym, ap, ◌∙◌, inl, inr, arith}
 use Rattle.std.proofs.lemmas.Bool.Decides.{nat_tests}
 use Rattle.std.proofs.lemmas.Bool.{cases_lt}
 use Rattle.entry.specs.declared.Side.{Side}
 use Rattle.entry.specs.declared.Entry.{Entry}
 use Rattle.rules.specs.declared.figures.Forerunner.{Forerunner}
-use Rattle.rules.specs.History.{Opening, at, Better, posted, left, posts, leaves, standing, stands_since, Best, Ends, gone, Forerun, Credits, Requires, Unbroken, latest}
+use Rattle.rules.specs.History.{Opening, at, posted, left, posts, leaves, standing, stands_since, Best, gone, Forerun, Requires, Unbroken, latest}
 use Rattle.rules.specs.Promise.{Timely}
 use Rattle.rules.proofs.Sides.{better_or}
 

@@ -1,18 +1,17 @@
 -- How many levels stand on a side, by the history, and what a board answers to an order more.
-use Rattle.std.proofs.Common.{◌≡◌, ℕ, suc, ◌<◌, ◌≤◌, Bool, true, false, cond, ◌&&◌, eqb, ltb, leb, ◌⊎◌, List, [], ◌∷◌, length, Some, None, Decides, Option, sym, refl, ap, ◌∙◌, subst, inl, inr, arith}
-use Rattle.std.proofs.lemmas.Bool.Decides.{nat_tests, Decides-and, Decides-ltb, not_from_Decides, Decides-like}
-use Rattle.std.proofs.lemmas.Bool.{cases_eq, cases_Bool, cond-true, cond-false, eq-eqb, ne_eqb, eqb-true, eqb-false, leb-true, leb-false, le-leb}
+use Rattle.std.proofs.Common.{◌≡◌, ℕ, suc, ◌<◌, ◌≤◌, Bool, true, false, cond, eqb, ltb, List, [], ◌∷◌, length, Some, None, Decides, Option, sym, refl, ap, ◌∙◌, subst, inl, inr, arith}
+use Rattle.std.proofs.lemmas.Bool.Decides.{Decides-and, Decides-ltb, not_from_Decides}
+use Rattle.std.proofs.lemmas.Bool.{cases_Bool, cond-true, cond-false, eq-eqb, eqb-true, eqb-false, leb-true, leb-false}
 use Rattle.entry.specs.declared.Side.{Side}
 use Rattle.entry.specs.declared.Entry.{Entry}
 use Rattle.board.specs.declared.levels.Level.{Level}
 use Rattle.board.specs.Levels.{full}
-use Rattle.board.specs.Book.{Book, better, level_at, levels_of}
+use Rattle.board.specs.Book.{Book, level_at, levels_of}
 use Rattle.board.specs.Calls.{has_place, join_answer, leave_answer}
 use Rattle.board.specs.Sound.{Behind, Sorted}
 use Rattle.rules.specs.Checks.{number_of, by_board}
-use Rattle.rules.specs.History.{Opening, Better, standing, stands_since, shown, level, Among, AllWorse, BestFirst, Prices, HasPlace, Check, passes, fails, Accepted}
+use Rattle.rules.specs.History.{Opening, Better, standing, stands_since, level, Among, AllWorse, BestFirst, Prices, HasPlace, Check, passes, fails, Accepted}
 use Rattle.rules.proofs.Sides.{better_is, better_trans, better_not_self}
-use Rattle.rules.proofs.Boards.{behind_none}
 use Rattle.rules.proofs.Tested.{decides_leb}
 use Rattle.rules.proofs.Bests.{Shows, shown-some, shown-none}
 

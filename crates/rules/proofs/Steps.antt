@@ -1,9 +1,8 @@
 -- One entry: it is answered by the table, and an accepted one keeps day and board to the history.
-use Rattle.std.proofs.Common.{◌≡◌, ℕ, zero, suc, ◌+◌, ◌-◌, ◌<◌, ◌≤◌, Bool, true, false, cond, ◌&&◌, eqb, ◌⊎◌, List, [], ◌∷◌, Ok, Err, Decides, Result, sym, refl, ap, ◌∙◌, subst, inl, inr, arith}
+use Rattle.std.proofs.Common.{◌≡◌, ℕ, ◌<◌, Bool, true, false, cond, eqb, List, ◌∷◌, Ok, Err, Result, sym, refl, ap, ◌∙◌, subst, arith}
 use Rattle.std.proofs.lemmas.Bool.{cond_both, eqb-true, and_left, false≢true}
 use Rattle.entry.specs.declared.Side.{Side}
 use Rattle.entry.specs.declared.Side.TheVariants.{Buy, Sell}
-use Rattle.entry.specs.declared.Params.{Params}
 use Rattle.entry.specs.declared.Entry.{Entry}
 use Rattle.entry.specs.declared.Entry.TheVariants.{Clock, Post, Leave, Trade, Parameters, Reference, Ruling}
 use Rattle.entry.specs.declared.refusals.Refusal.{Refusal}
@@ -11,18 +10,15 @@ use Rattle.entry.specs.declared.refusals.Refusal.TheVariants as why
 use Rattle.entry.specs.Refusals.{number}
 use Rattle.board.specs.declared.faults.BoardFault.{BoardFault}
 use Rattle.board.specs.declared.levels.Level.{Level}
-use Rattle.board.specs.Book.{Book, empty_book, levels_of, with_levels}
-use Rattle.board.specs.Calls.{on_ok, add_answer, add_after, added, take_answer, take_after, taken}
-use Rattle.board.specs.Sound.{Sorted}
+use Rattle.board.specs.Book.{Book, levels_of, with_levels}
+use Rattle.board.specs.Calls.{on_ok, add_answer, added, take_answer, taken}
 use Rattle.plan.specs.declared.slots.Window.{Window}
-use Rattle.rules.specs.declared.figures.ClosedFigures.{ClosedFigures}
 use Rattle.plan.specs.Hours.{slot_at}
 use Rattle.rules.specs.Readings.{quotation_at}
-use Rattle.rules.specs.Checks.{State, Answer, both, number_of, must, and_then, is_in_range, on_time, listed, in_side, apart, by_board, answer}
+use Rattle.rules.specs.Checks.{State, Answer, number_of, must, and_then, is_in_range, on_time, listed, in_side, apart, by_board, answer}
 use Rattle.rules.specs.Effects.{time_of, book_after, moved, after}
-use Rattle.rules.specs.Days.{opened}
-use Rattle.rules.specs.History.{Opening, at, posted, left, Grounds, Table, AreParams, first_quotation}
-use Rattle.rules.specs.Promise.{Agrees, Told, Kept, opening_of, start}
+use Rattle.rules.specs.History.{Opening, at, Grounds, Table}
+use Rattle.rules.specs.Promise.{Agrees, Told, Kept}
 use Rattle.rules.proofs.Keeps.{Stocked, quiet, stocked_post, stocked_leave}
 use Rattle.rules.proofs.Grounds.{grounds, one_ground}
 use Rattle.rules.proofs.Tables.{one_answer, by_table, table_range, table-time, table-within, table_clear, table-held}

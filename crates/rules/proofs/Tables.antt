@@ -1,5 +1,5 @@
 -- The answer to an entry is the table's, and the table has one answer.
-use Rattle.std.proofs.Common.{◌≡◌, ℕ, suc, ◌<◌, ◌≤◌, Bool, true, false, cond, not, ◌&&◌, eqb, leb, ◌⊎◌, List, [], ◌∷◌, Some, None, Ok, Err, Decides, Option, sym, refl, ap, ◌∙◌, subst, inl, inr, arith}
+use Rattle.std.proofs.Common.{◌≡◌, ℕ, suc, ◌<◌, Bool, true, false, cond, not, ◌&&◌, eqb, leb, List, Some, None, Ok, Decides, Option, sym, refl, ap, ◌∙◌, subst, arith}
 use Rattle.std.proofs.lemmas.Bool.Decides.{nat_tests, Decides-and, not_from_Decides}
 use Rattle.std.proofs.lemmas.Bool.{cond_both, eqb-true, eqb-false, false≢true}
 use Rattle.entry.specs.declared.Side.{Side}
@@ -11,7 +11,6 @@ use Rattle.entry.specs.declared.refusals.Refusal.{Refusal}
 use Rattle.entry.specs.declared.refusals.Refusal.TheVariants as why
 use Rattle.entry.specs.Refusals.{number}
 use Rattle.board.specs.Book.{level_at, levels_of, best_of}
-use Rattle.board.specs.Calls.{add_answer}
 use Rattle.plan.specs.declared.slots.Session.{Session}
 use Rattle.plan.specs.declared.slots.Session.TheVariants.{Morning, Main, Evening, Weekend}
 use Rattle.plan.specs.declared.slots.Slot.{Slot}
@@ -23,12 +22,12 @@ use Rattle.limits.specs.Rounded.{static_limits, dynamic_limits}
 use Rattle.rules.specs.declared.figures.DaysLeft.{DaysLeft}
 use Rattle.rules.specs.declared.figures.References.{References}
 use Rattle.rules.specs.Readings.{or_else, reference_of, lp_of, window_of, static_of, dynamic_of, quotation_at}
-use Rattle.rules.specs.Checks.{State, Answer, number_of, must, and_then, last_time, is_in_range, is_session, within, side_within, meets, other_side, by_board, main_order, checked, answer}
-use Rattle.rules.specs.History.{Opening, at, other, standing, reference, given, lp, params, latest, bounds, Clear, InStatic, UpToDynamic, FromDynamic, InSide, InRange, OnTime, InSession, HasPlace, Check, passes, fails, Accepted, Table, Within, AreParams}
+use Rattle.rules.specs.Checks.{State, Answer, number_of, must, and_then, last_time, is_session, within, side_within, meets, other_side, main_order, answer}
+use Rattle.rules.specs.History.{Opening, at, other, standing, reference, given, lp, params, bounds, Clear, InStatic, UpToDynamic, FromDynamic, InSide, InRange, OnTime, HasPlace, Check, passes, fails, Accepted, Table, Within}
 use Rattle.rules.specs.Promise.{Agrees, references}
-use Rattle.rules.proofs.Bests.{Shows, clear_is}
+use Rattle.rules.proofs.Bests.{clear_is}
 use Rattle.rules.proofs.Places.{board_row, take_row}
-use Rattle.rules.proofs.Tested.{decides_leb, static_is, lower_is, upper_is, dynamic_is, range_is}
+use Rattle.rules.proofs.Tested.{static_is, lower_is, upper_is, range_is}
 use Rattle.rules.proofs.Grounds.{shows, at_quotation}
 
 -- ── rows ──

@@ -1,6 +1,6 @@
 -- The tests of ranges and limits decide what the history says of them.
-use Rattle.std.proofs.Common.{◌≡◌, ℕ, ◌+◌, ◌-◌, ◌*◌, ◌/◌, ◌<◌, ◌≤◌, min, max, Bool, true, false, ◌&&◌, ◌||◌, eqb, ltb, leb, ◌⊎◌, Decides, Option, sym, refl, ap, ◌∙◌, subst, inl, inr, arith}
-use Rattle.std.proofs.lemmas.Bool.Decides.{nat_tests, Decides-and, Decides-or, Decides-eqb, Decides-like}
+use Rattle.std.proofs.Common.{ℕ, ◌+◌, ◌*◌, ◌≤◌, leb, Decides, Option, refl, inl, inr, arith}
+use Rattle.std.proofs.lemmas.Bool.Decides.{nat_tests, Decides-and, Decides-or, Decides-eqb}
 use Rattle.std.proofs.lemmas.Bool.{leb-true, le-leb, cases_lt}
 use Rattle.entry.specs.declared.Params.{Params}
 use Rattle.entry.specs.declared.Entry.{Entry}
@@ -9,7 +9,7 @@ use Rattle.limits.specs.declared.BoundedWindow.{BoundedWindow}
 use Rattle.limits.specs.Rounded.{static_limits, dynamic_limits}
 use Rattle.limits.specs.Exact.{Least, Greatest, FromStaticLower, ToStaticUpper, FromDynamicLower, ToDynamicUpper}
 use Rattle.limits.proofs.Joined.{lower_exact, upper_exact}
-use Rattle.rules.specs.Checks.{is_price, is_quantity, are_params, is_in_range, within}
+use Rattle.rules.specs.Checks.{is_price, are_params, is_in_range, within}
 use Rattle.rules.specs.History.{IsPrice, AreParams, InRange}
 
 pub decides_leb : (a b : ℕ) → Decides (leb a b) (a ≤ b)

@@ -1,7 +1,7 @@
 -- Opening, every list of entries, every list of calls, striking, limits and close: the whole promise.
-use Rattle.std.proofs.Common.{◌≡◌, ℕ, ◌+◌, ◌-◌, ◌<◌, ◌≤◌, Bool, true, false, cond, ◌&&◌, eqb, leb, ◌⊎◌, List, [], ◌∷◌, ◌++◌, Some, None, Ok, Err, Decides, Option, sym, refl, ap, ◌∙◌, subst, inl, inr, arith}
+use Rattle.std.proofs.Common.{◌≡◌, ℕ, ◌-◌, ◌<◌, Bool, true, false, cond, eqb, leb, List, [], ◌∷◌, ◌++◌, Some, None, Ok, Err, Decides, Option, sym, refl, ap, ◌∙◌, subst, inl, inr, arith}
 use Rattle.std.proofs.lemmas.Bool.Decides.{Decides-and, not_from_Decides, nat_tests}
-use Rattle.std.proofs.lemmas.Bool.{cond-true, cond-false, eq-eqb, ne_eqb, and_parts, false≢true}
+use Rattle.std.proofs.lemmas.Bool.{cond-true, eq-eqb, ne_eqb, and_parts, false≢true}
 use Rattle.entry.specs.declared.Side.{Side}
 use Rattle.entry.specs.declared.Side.TheVariants.{Buy, Sell}
 use Rattle.entry.specs.declared.Params.{Params}
@@ -14,20 +14,18 @@ use Rattle.board.specs.Calls.{on_ok}
 use Rattle.board.specs.Sound.{Sorted}
 use Rattle.plan.specs.declared.slots.Window.{Window}
 use Rattle.plan.specs.Hours.{slot_at}
-use Rattle.limits.specs.declared.BoundedWindow.{BoundedWindow}
-use Rattle.limits.specs.Exact.{Least, Greatest, FromStaticLower, ToStaticUpper, FromDynamicLower, ToDynamicUpper}
-use Rattle.limits.specs.Rounded.{static_limits, dynamic_limits}
+use Rattle.limits.specs.Rounded.{static_limits}
 use Rattle.limits.proofs.Joined.{lower_exact, upper_exact}
 use Rattle.rules.specs.declared.figures.ClosedFigures.{ClosedFigures}
 use Rattle.rules.specs.declared.figures.TrailLine.{TrailLine}
 use Rattle.rules.specs.Readings.{or_else, quotation_at, static_of, dynamic_of}
-use Rattle.rules.specs.Checks.{State, Answer, both, number_of, must, and_then, are_params, last_time, answer}
+use Rattle.rules.specs.Checks.{State, Answer, number_of, last_time, answer}
 use Rattle.rules.specs.Effects.{moved, after}
 use Rattle.rules.specs.Runs.{line_of, lines, final, Call, entries_of, all_entries, after_calls}
 use Rattle.rules.specs.Days.{open_answer, opened, days_after, closed}
-use Rattle.rules.specs.History.{Opening, level, first_quotation, Quoted, Marked, above, below, params, bounds, AreParams, Check, Accepted, Table}
-use Rattle.rules.specs.Promise.{Agrees, Told, Answered, joined, accepted, KeptAll, struck, OnlyRefused, OpenTable, NoLevel, opening_of, Begins, Closes, StaticPair, DynamicPair, Opens, start, Promise, Promised}
-use Rattle.rules.proofs.Tested.{decides_leb, params_is, static_lower, static_upper}
+use Rattle.rules.specs.History.{Opening, first_quotation, params, bounds, AreParams}
+use Rattle.rules.specs.Promise.{Agrees, Told, Answered, accepted, KeptAll, struck, OnlyRefused, OpenTable, NoLevel, Begins, Closes, StaticPair, DynamicPair, Opens, start, Promised}
+use Rattle.rules.proofs.Tested.{params_is, static_lower, static_upper}
 use Rattle.rules.proofs.Grounds.{quoted_at}
 use Rattle.rules.proofs.Tables.{row, last_row, one_answer, dynamic-of}
 use Rattle.rules.proofs.Steps.{number_positive, told}

@@ -9,12 +9,11 @@ use Rattle.plan.specs.declared.slots.Window.{Window}
 use Rattle.rules.specs.declared.figures.OpenFigures.{OpenFigures}
 use Rattle.rules.specs.declared.figures.ClosedFigures.{ClosedFigures}
 use Rattle.rules.specs.declared.figures.TrailLine.{TrailLine}
-use Rattle.rules.specs.Checks.{State, Answer, both, number_of, answer, static_answer, dynamic_answer}
+use Rattle.rules.specs.Checks.{State, Answer, both, number_of, answer}
 use Rattle.rules.specs.Effects.{after}
 use Rattle.rules.specs.Runs.{Call, final, run_answer, applied, trail_after}
-use Rattle.rules.specs.Days.{closed}
 use Rattle.rules.specs.History.{Opening, OnTime, Check, Accepted}
-use Rattle.rules.specs.Promise.{Agrees, Kept, KeptAll, NoLevel, OpenTable, Begins, Closes, StaticPair, DynamicPair, Promise, opening_of, start}
+use Rattle.rules.specs.Promise.{Agrees, Kept, KeptAll, Begins, Closes, StaticPair, DynamicPair, Promise, opening_of, start}
 
 -- the entry e, by the call of its kind, on the day and the board w: the answer r, and w' after it
 pub record Entered (hours : List Window) (w : State) (e : Entry) (r : Answer) (w' : State) : Type 0 where

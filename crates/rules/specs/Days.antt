@@ -1,5 +1,5 @@
 -- Opening and closing a day.
-use Rattle.std.specs.Prelude.{ℕ, ◌-◌, Bool, true, false, Some, None, Option, nat_le}
+use Rattle.std.specs.Prelude.{ℕ, ◌-◌, Bool, true, false, Some, None, nat_le}
 use Rattle.entry.specs.declared.Params.{Params}
 use Rattle.entry.specs.declared.refusals.Refusal.TheVariants as why
 use Rattle.board.specs.Book.{Book, is_empty}

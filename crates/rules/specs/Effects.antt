@@ -1,5 +1,5 @@
 -- What an accepted entry makes of each figure of the day and of the board.
-use Rattle.std.specs.Prelude.{ℕ, ◌-◌, ◌*◌, Bool, true, false, cond, ◌&&◌, ◌||◌, List, Some, None, Ok, Err, Option, Result, ◌==◌, nat_lt}
+use Rattle.std.specs.Prelude.{ℕ, ◌-◌, ◌*◌, cond, ◌&&◌, ◌||◌, List, Some, None, Option, ◌==◌, nat_lt}
 use Rattle.entry.specs.declared.Side.{Side}
 use Rattle.entry.specs.declared.Side.TheVariants.{Buy, Sell}
 use Rattle.entry.specs.declared.Params.{Params}

@@ -1,5 +1,5 @@
 -- The promise: that every day and board is, after every list of entries, what its history says.
-use Rattle.std.specs.Prelude.{◌≡◌, ℕ, ◌-◌, ◌<◌, ◌≤◌, Bool, true, false, cond, ◌⊎◌, List, [], ◌∷◌, Some, None, Ok, Decides, ◌==◌}
+use Rattle.std.specs.Prelude.{◌≡◌, ℕ, ◌-◌, ◌<◌, ◌≤◌, Bool, true, false, cond, ◌⊎◌, List, [], ◌∷◌, Some, None, Decides, ◌==◌}
 use Rattle.entry.specs.declared.Side.{Side}
 use Rattle.entry.specs.declared.Side.TheVariants.{Buy, Sell}
 use Rattle.entry.specs.declared.Params.{Params}
@@ -17,7 +17,7 @@ use Rattle.rules.specs.declared.figures.TrailLine.{TrailLine}
 use Rattle.rules.specs.Checks.{State, Answer, both, number_of}
 use Rattle.rules.specs.Runs.{Call, lines, final, all_entries, after_calls}
 use Rattle.rules.specs.Days.{opened}
-use Rattle.rules.specs.History.{Opening, at, posts, leaves, standing, level, Uncrossed, Forerun, Quoted, QuotedAt, latest, params, reference, Marked, above, below, bounds, Within, AreParams, Check, Accepted, Table}
+use Rattle.rules.specs.History.{Opening, at, posts, leaves, level, Uncrossed, Forerun, Quoted, QuotedAt, latest, params, reference, Marked, above, below, bounds, Within, AreParams, Check, Accepted, Table}
 
 -- the times never fall, and none is below the opening's
 abbrev pub Timely : Opening → List Entry → Type 0

@@ -1,5 +1,5 @@
 -- What a list of entries, and a list of calls, is answered and leaves.
-use Rattle.std.specs.Prelude.{ℕ, cond, List, [], ◌∷◌, ◌++◌, length, drop, Ok, Err, Result, nat_le}
+use Rattle.std.specs.Prelude.{ℕ, cond, List, [], ◌∷◌, ◌++◌, length, drop, Ok, Err, nat_le}
 use Rattle.entry.specs.declared.Entry.{Entry}
 use Rattle.entry.specs.declared.refusals.Refusal.TheVariants as why
 use Rattle.plan.specs.declared.slots.Window.{Window}

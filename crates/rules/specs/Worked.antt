@@ -1,6 +1,6 @@
 -- The worked examples, as they follow from the history's own meaning.
 use Rattle.std.specs.Prelude.{ℕ, ◌+◌, ◌≤◌, List, [], ◌∷◌, Some, None, Option}
-use Rattle.entry.specs.declared.Side.TheVariants.{Buy, Sell}
+use Rattle.entry.specs.declared.Side.TheVariants.{Buy}
 use Rattle.entry.specs.declared.Entry.{Entry}
 use Rattle.entry.specs.declared.Entry.TheVariants.{Clock, Post, Leave}
 use Rattle.plan.specs.declared.slots.Session.TheVariants.{Morning, Main}

@@ -8,5 +8,5 @@ use Rattle.engine.proofs.OpenDay.close.Goals as goal
 pub returns : goal.returns
 returns c =
     let d = c.args.self.figures in
-    let e = c.carried-over.ensures in
+    let e = c.carried_over.ensures in
     record { answer = e; promise = subst (λ (z : ClosedFigures). ClosedAs d z) (sym e) (closed_as d) }

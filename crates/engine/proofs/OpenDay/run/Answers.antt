@@ -4,5 +4,5 @@ use Rattle.engine.proofs.OpenDay.run.Goals as goal
 
 pub returns : goal.returns
 returns g c =
-    let e = c.run-through.ensures in
+    let e = c.run_through.ensures in
     record { ran = ran _ _ _ _ _ _ _ e.answer e.after e.trail; lent = e.lent }

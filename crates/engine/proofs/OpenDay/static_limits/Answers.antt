@@ -7,5 +7,5 @@ use Rattle.engine.proofs.OpenDay.static_limits.Goals as goal
 
 pub returns : goal.returns
 returns c =
-    let e = c.static-at.ensures in
+    let e = c.static_at.ensures in
     record { answer = e; promise = subst (λ (z : Result (ℕ × ℕ) Refusal). StaticTold c.args.self.now.figures c.args.time z) (sym e) (static_told c.args.self.now.figures c.args.time) }
