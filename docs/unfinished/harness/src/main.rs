@@ -131,7 +131,7 @@ type Test = (&'static str, fn() -> Result<usize, String>);
 
 const TESTS: [Test; 8] = [
     ("lines of docs/EXAMPLES.md by the reference engine", || {
-        documents::check(include_str!("../../docs/EXAMPLES.md"))
+        documents::check(include_str!("../../../EXAMPLES.md"))
     }),
     ("damaged feeds", misuses::damaged_feeds),
     ("damaged jobs", || misuses::damaged_jobs(&mut Random::new(7))),
