@@ -1,6 +1,9 @@
 //! The program: carries out a script, turns a binary feed into readable lines, and a script into a binary feed.
 #![tactic(auto)]
 
+ghost use Rattle.std.specs.Prelude.{◌≡◌, OnOk, OnErr};
+ghost use Rattle.std.specs.Process.{exit_status};
+
 use commands::encoding::{ScriptFault, encode_script};
 use commands::listing::{counted, list_feed};
 use commands::request::{HELP, Request, USAGE, read_request};
@@ -125,15 +128,23 @@ fn run(rt: &HostRuntime) -> Result<(), Failure> {
     }
 }
 
-fn main(rt: HostRuntime) -> ExitCode {
-    match run(&rt) {
+/// What the program ends with: 0 if it did its work, else 1. What failed outside it was not said yet, and is said here.
+fn status(rt: &HostRuntime, done: Result<(), Failure>) -> ExitCode
+    ensures done { OnOk done (exit_status result ≡ 0) }
+    ensures failed { OnErr done (exit_status result ≡ 1) }
+{
+    match done {
         Ok(()) => ExitCode::SUCCESS,
         Err(Failure::Told) => ExitCode::FAILURE,
         Err(Failure::Outside(why)) => {
-            let _ = blame(&rt, "velvetpalm", why);
+            let _ = blame(rt, "velvetpalm", why);
             ExitCode::FAILURE
         }
     }
+}
+
+fn main(rt: HostRuntime) -> ExitCode {
+    status(&rt, run(&rt))
 }
 
 #[cfg(test)]
