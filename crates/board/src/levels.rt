@@ -8,7 +8,7 @@ use crate::faults::BoardFault;
 pub const MOST_ORDERS: u16 = 65_535;
 
 /// What stands at a price of a side: how many orders, 1 to 65,535, and since when.
-#[derive(Clone, Copy, PartialEq, Eq, Debug)]
+#[derive(Clone, Copy, PartialEq, Eq, Debug, Default)]
 pub struct Level {
     pub price: u32,
     pub orders: u16,
@@ -35,9 +35,8 @@ impl Level {
             return Err(BoardFault::LevelFull);
         }
         Ok(Level {
-            price: self.price,
             orders: self.orders + 1,
-            since: self.since,
+            ..self
         })
     }
 
@@ -49,9 +48,8 @@ impl Level {
             return None;
         }
         Some(Level {
-            price: self.price,
             orders: self.orders - 1,
-            since: self.since,
+            ..self
         })
     }
 }

@@ -56,12 +56,6 @@ pub trait Board {
     fn is_empty(&self) -> bool
         ensures answer { result ≡ is_empty (book self.now) }
     {
-        match self.best(Side::Buy) {
-            Some(_) => false,
-            None => match self.best(Side::Sell) {
-                Some(_) => false,
-                None => true,
-            },
-        }
+        self.best(Side::Buy).is_none() && self.best(Side::Sell).is_none()
     }
 }

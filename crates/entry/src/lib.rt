@@ -1,7 +1,11 @@
 //! What a day is told, one entry at a time, in raw figures: any figure that fits its type may come, and is judged later.
 #![tactic(auto)]
 
+pub mod codes;
+pub mod kinds;
 pub mod refusals;
+pub mod sides;
+pub mod windows;
 
 /// The side of an order. A higher price is better for a buy, a lower one for a sell.
 #[derive(Clone, Copy, PartialEq, Eq, Debug)]

@@ -3,7 +3,7 @@ ghost use Rattle.std.specs.Prelude.{◌≡◌};
 ghost use Rattle.entry.specs.Refusals.{number, place};
 
 /// Why an entry or a call is refused. A refused call changes nothing.
-#[derive(Clone, Copy)]
+#[derive(Clone, Copy, PartialEq, Eq, Debug)]
 pub enum Refusal {
     /// A code or figure is outside its range, or LR is above UR.
     OutOfRange,
