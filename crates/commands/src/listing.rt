@@ -9,7 +9,7 @@ use script::print::Plain;
 use std::alloc::{AllocError, Global};
 
 /// The lines of a feed, and whether it was read to its end.
-#[derive(Drop)]
+#[derive(Drop, PartialEq, Eq, Debug)]
 pub struct Listing {
     pub text: String,
     pub whole: bool,
