@@ -16,6 +16,7 @@ const MOST_LEVELS: usize = 4_096;
 fn levels<B: Board>(heap: Global, board: &B, side: Side) -> Result<String, AllocError> {
     let mut text = String::new(heap);
     let mut standing = board.best(side);
+    // Counted, so that the loop ends over any board.
     for _ in 0..MOST_LEVELS {
         let Some(
             Level {

@@ -107,6 +107,7 @@ impl From<Result<NewBoard, Refusal>> for Answer {
     }
 }
 
+// A function and no Display, which would have to stand in the plans' crate.
 fn session_name(session: Session) -> &'static str {
     match session {
         Session::Morning => "morning",

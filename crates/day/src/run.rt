@@ -30,6 +30,7 @@ impl<'a> Desk<'a> {
         ensures fewer { IfOk result (λ found. OnSome found (length (to_come self.new.lines) < length (to_come self.old.lines))) }
     {
         while let Some(line) = self.lines.next() {
+            // Counted here, since the number outlives each loop over the lines.
             self.line = self.line.saturating_add(1);
             match parse(line) {
                 Ok(Some(command)) => return Ok(Some(command)),
@@ -69,7 +70,7 @@ impl<'a> Desk<'a> {
         self.stretch(|_| Err(OutOfPlace::NoBoard.into()))
     }
 
-    // Carries out lines on a new board.
+    // Carries out lines on a new board. The first test is made again: an enum's value carries no proof that it was passed.
     fn on_board(&mut self, board: NewBoard) -> Result<Option<NewBoard>, Halt>
         ensures fewer { IfOk result (λ next. OnSome next (length (to_come self.new.lines) < length (to_come self.old.lines))) }
     {
