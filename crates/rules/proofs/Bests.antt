@@ -10,7 +10,7 @@ use Rattle.board.specs.declared.levels.Level.{Level}
 use Rattle.board.specs.Book.{better, level_at, first}
 use Rattle.board.specs.Sound.{Sorted}
 use Rattle.rules.specs.declared.figures.Forerunner.{Forerunner}
-use Rattle.rules.specs.declared.figures.Forerunners.{Forerunners}
+use Rattle.rules.specs.Figures.{Forerunners}
 use Rattle.rules.specs.Readings.{full_time, credit_of, forerunner_of}
 use Rattle.rules.specs.Checks.{meets}
 use Rattle.rules.specs.Effects.{with_forerunner, ended}

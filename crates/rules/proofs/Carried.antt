@@ -11,7 +11,7 @@ use Rattle.plan.specs.declared.slots.Slot.{Slot}
 use Rattle.plan.specs.declared.slots.Slot.TheVariants.{NoSession, Free, Bounded}
 use Rattle.plan.specs.Sessions.{session_of}
 use Rattle.plan.specs.Hours.{slot_at}
-use Rattle.rules.specs.declared.figures.Marks.{Marks}
+use Rattle.rules.specs.Figures.{Marks}
 use Rattle.rules.specs.declared.figures.References.{References}
 use Rattle.rules.specs.Readings.{lp_of, forerunner_of}
 use Rattle.rules.specs.Checks.{State}

@@ -19,7 +19,7 @@ use Rattle.plan.specs.Sessions.{code_of}
 use Rattle.plan.specs.Hours.{slot_at}
 use Rattle.limits.specs.declared.BoundedWindow.{BoundedWindow}
 use Rattle.limits.specs.Rounded.{static_limits, dynamic_limits}
-use Rattle.rules.specs.declared.figures.DaysLeft.{DaysLeft}
+use Rattle.rules.specs.Figures.{DaysLeft}
 use Rattle.rules.specs.declared.figures.References.{References}
 use Rattle.rules.specs.Readings.{or_else, reference_of, lp_of, window_of, static_of, dynamic_of, quotation_at}
 use Rattle.rules.specs.Checks.{State, Answer, number_of, must, and_then, last_time, is_session, within, side_within, meets, other_side, main_order, answer}
