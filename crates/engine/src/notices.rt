@@ -3,17 +3,14 @@
 ghost use Rattle.std.specs.Prelude.{◌≡◌};
 ghost use Rattle.entry.specs.declared.Entry.{Entry};
 ghost use Rattle.rules.specs.Checks.{checked};
-ghost use Rattle.rules.specs.Effects.{entered};
 ghost use Rattle.engine.specs.Calls.{state_of, after_checked};
 
 use crate::OpenDay;
-use crate::checks::on_time;
-use crate::readings::quotation_at;
 use board::Board;
 use entry::Params;
 use entry::refusals::Refusal;
 use plan::{Plan, Session};
-use rules::figures::{OpenFigures, References};
+use rules::figures::OpenFigures;
 
 impl OpenDay {
     // Time has gone on: a level that has become ripe gives its price to the quotation.
@@ -26,10 +23,10 @@ impl OpenDay {
         ensures answer { result ≡ checked (P.Plan.hours plan.now) (state_of self.old (B.Board.book board.now)) (Entry.Clock time) }
         ensures after { state_of self.new (B.Board.book board.now) ≡ after_checked (P.Plan.hours plan.now) (state_of self.old (B.Board.book board.now)) (Entry.Clock time) }
     {
-        on_time(&self.figures, time)?;
+        self.on_time(time)?;
         self.figures = OpenFigures {
             time,
-            quotation: quotation_at(&self.figures, board, time),
+            quotation: self.quotation_at(board, time),
             ..self.figures
         };
         Ok(())
@@ -46,10 +43,10 @@ impl OpenDay {
         ensures answer { result ≡ checked (P.Plan.hours plan.now) (state_of self.old (B.Board.book board.now)) (Entry.Parameters time params) }
         ensures after { state_of self.new (B.Board.book board.now) ≡ after_checked (P.Plan.hours plan.now) (state_of self.old (B.Board.book board.now)) (Entry.Parameters time params) }
     {
-        on_time(&self.figures, time)?;
+        self.on_time(time)?;
         self.figures = OpenFigures {
             time,
-            quotation: quotation_at(&self.figures, board, time),
+            quotation: self.quotation_at(board, time),
             params,
             ..self.figures
         };
@@ -68,15 +65,15 @@ impl OpenDay {
         ensures answer { result ≡ checked (P.Plan.hours plan.now) (state_of self.old (B.Board.book board.now)) (Entry.Reference time session price) }
         ensures after { state_of self.new (B.Board.book board.now) ≡ after_checked (P.Plan.hours plan.now) (state_of self.old (B.Board.book board.now)) (Entry.Reference time session price) }
     {
-        on_time(&self.figures, time)?;
+        self.on_time(time)?;
+        let references = self.figures.references;
         self.figures = OpenFigures {
             time,
-            quotation: quotation_at(&self.figures, board, time),
-            references: references_after(
-                self.figures.references,
-                Session::from_code(session),
-                price,
-            ),
+            quotation: self.quotation_at(board, time),
+            references: match Session::from_code(session) {
+                Some(session) => references.with(session, price),
+                None => references,
+            },
             ..self.figures
         };
         Ok(())
@@ -93,37 +90,12 @@ impl OpenDay {
         ensures answer { result ≡ checked (P.Plan.hours plan.now) (state_of self.old (B.Board.book board.now)) (Entry.Ruling time price) }
         ensures after { state_of self.new (B.Board.book board.now) ≡ after_checked (P.Plan.hours plan.now) (state_of self.old (B.Board.book board.now)) (Entry.Ruling time price) }
     {
-        on_time(&self.figures, time)?;
+        self.on_time(time)?;
         self.figures = OpenFigures {
             time,
             quotation: price,
             ..self.figures
         };
         Ok(())
-    }
-}
-
-// The references with one entered for a session, if there is such a session.
-fn references_after(references: References, session: Option<Session>, price: u32) -> References
-    ensures { result ≡ entered references session price }
-{
-    match session {
-        Some(Session::Morning) => References {
-            morning: Some(price),
-            ..references
-        },
-        Some(Session::Main) => References {
-            main: Some(price),
-            ..references
-        },
-        Some(Session::Evening) => References {
-            evening: Some(price),
-            ..references
-        },
-        Some(Session::Weekend) => References {
-            weekend: Some(price),
-            ..references
-        },
-        None => references,
     }
 }
