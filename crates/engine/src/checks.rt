@@ -16,7 +16,7 @@ impl OpenDay {
     pub(crate) fn on_time(&self, time: u32) -> Result<(), Refusal>
         ensures { result ≡ on_time self.now.figures time }
     {
-        if self.figures.time <= time && time <= LAST_TIME {
+        if (self.figures.time..=LAST_TIME).contains(&time) {
             Ok(())
         } else {
             Err(Refusal::BadTime)
@@ -27,7 +27,7 @@ impl OpenDay {
         ensures { result ≡ in_static self.now.figures price }
     {
         let (lower, upper) = static_limits(self.figures.params);
-        if lower <= price as u64 && price as u64 <= upper {
+        if (lower..=upper).contains(&(price as u64)) {
             Ok(())
         } else {
             Err(Refusal::OutsideStatic)
@@ -51,7 +51,7 @@ impl OpenDay {
         ensures { result ≡ in_dynamic self.now.figures price quotation slot }
     {
         let (lower, upper) = self.dynamic(quotation, slot);
-        if lower <= price as u64 && price as u64 <= upper {
+        if (lower..=upper).contains(&(price as u64)) {
             Ok(())
         } else {
             Err(Refusal::OutsideDynamic)

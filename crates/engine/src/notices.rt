@@ -2,6 +2,7 @@
 // the contracts of all entries have one form.
 ghost use Rattle.std.specs.Prelude.{◌≡◌};
 ghost use Rattle.entry.specs.declared.Entry.{Entry};
+ghost use Rattle.plan.specs.Sessions.{code_of};
 ghost use Rattle.rules.specs.Checks.{checked};
 ghost use Rattle.engine.specs.Calls.{state_of, after_checked};
 
@@ -53,27 +54,23 @@ impl OpenDay {
         Ok(())
     }
 
-    // A reference for the session with a code in range.
+    // A reference price for a session.
     pub(crate) fn set_reference<B: Board, P: Plan>(
         &mut self,
         board: &B,
         plan: &P,
         time: u32,
-        session: u8,
+        session: Session,
         price: u32,
     ) -> Result<(), Refusal>
-        ensures answer { result ≡ checked (P.Plan.hours plan.now) (state_of self.old (B.Board.book board.now)) (Entry.Reference time session price) }
-        ensures after { state_of self.new (B.Board.book board.now) ≡ after_checked (P.Plan.hours plan.now) (state_of self.old (B.Board.book board.now)) (Entry.Reference time session price) }
+        ensures answer { result ≡ checked (P.Plan.hours plan.now) (state_of self.old (B.Board.book board.now)) (Entry.Reference time (code_of session) price) }
+        ensures after { state_of self.new (B.Board.book board.now) ≡ after_checked (P.Plan.hours plan.now) (state_of self.old (B.Board.book board.now)) (Entry.Reference time (code_of session) price) }
     {
         self.on_time(time)?;
-        let references = self.figures.references;
         self.figures = OpenFigures {
             time,
             quotation: self.quotation_at(board, time),
-            references: match Session::from_code(session) {
-                Some(session) => references.with(session, price),
-                None => references,
-            },
+            references: self.figures.references.with(session, price),
             ..self.figures
         };
         Ok(())
