@@ -70,11 +70,11 @@ fn credit(side: Side, level: Level, forerunner: Option<Forerunner>) -> u32
     ensures answer { result ≡ credit_of side level forerunner }
     ensures bound { result ≤ full_time }
 {
-    match forerunner {
-        Some(ended)
-            if side.betters(ended.price, level.price)
+    forerunner
+        .filter(|ended| {
+            side.betters(ended.price, level.price)
                 && ended.since < level.since
-                && ended.life < FULL_TIME => { ended.life }
-        _ => 0,
-    }
+                && ended.life < FULL_TIME
+        })
+        .map_or(0, |ended| ended.life)
 }

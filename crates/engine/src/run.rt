@@ -12,7 +12,7 @@ use plan::Plan;
 use rules::figures::TrailLine;
 
 impl OpenDay {
-    // The trail line of an answer, after the entry.
+    // The trail line of an answer, after the entry. A conversion from a `Result` would have the same two arms, and a `map` more.
     fn line(&self, answer: Result<(), Refusal>) -> TrailLine
         ensures { result ≡ line_of answer self.now.figures.quotation }
     {
@@ -44,6 +44,7 @@ impl OpenDay {
         if trail.len() < entries.len() {
             return Err(Refusal::TrailShort);
         }
+        // The project fixes this form: the entries are counted, and each line is written at its entry's own place.
         for (i, entry) in entries.iter().enumerate() {
             let answer = self.apply(board, plan, *entry);
             trail[i] = self.line(answer);

@@ -34,7 +34,8 @@ impl OpenDay {
         Ok(())
     }
 
-    // A trade of the closing auction, which is held to the dynamic limits too, and sets nothing.
+    // A trade of the closing auction, which is held to the dynamic limits too, and sets nothing. The two trades repeat three lines
+    // of checks: one function for these would have to tell the slot and the quotation too, in a contract longer than the lines.
     pub(crate) fn trade_at_auction<B: Board, P: Plan>(
         &mut self,
         board: &B,
