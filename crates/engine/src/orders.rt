@@ -60,32 +60,33 @@ impl OpenDay {
         self.figures = OpenFigures {
             time,
             quotation,
-            forerunners: forerunners_after(self.figures.forerunners, side, price, time, best),
+            forerunners: self.forerunners_after(side, price, time, best),
             ..self.figures
         };
         Ok(())
     }
-}
 
-// The forerunners after an order leaves: the last order of its side's best level makes that level the side's forerunner.
-fn forerunners_after(
-    forerunners: Forerunners,
-    side: Side,
-    price: u32,
-    time: u32,
-    best: Option<Level>,
-) -> Forerunners
-    ensures { result ≡ ended forerunners side price time best }
-{
-    match best {
-        Some(level) if level.price == price && level.orders == 1 => {
-            let ended = Forerunner {
-                price,
-                since: level.since,
-                life: time.saturating_sub(level.since),
-            };
-            forerunners.with(side, Some(ended))
+    // The forerunners after an order leaves: the last order of its side's best level makes that level the side's forerunner.
+    fn forerunners_after(
+        &self,
+        side: Side,
+        price: u32,
+        time: u32,
+        best: Option<Level>,
+    ) -> Forerunners
+        ensures { result ≡ ended self.now.figures.forerunners side price time best }
+    {
+        let forerunners = self.figures.forerunners;
+        match best {
+            Some(level) if level.price == price && level.orders == 1 => {
+                let ended = Forerunner {
+                    price,
+                    since: level.since,
+                    life: time.saturating_sub(level.since),
+                };
+                forerunners.with(side, Some(ended))
+            }
+            _ => forerunners,
         }
-        _ => forerunners,
     }
 }

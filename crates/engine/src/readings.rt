@@ -1,5 +1,6 @@
 // What is read off the figures of a day and a board: LP, the ripe levels, the quotation for the limits, the dynamic limits.
 ghost use Rattle.std.specs.Prelude.{◌≡◌, ◌≤◌};
+ghost use Rattle.board.specs.Book.{best_of};
 ghost use Rattle.rules.specs.Readings.{full_time, lp_of, credit_of, ripe_of, quotation_at, window_of, dynamic_of};
 
 use crate::OpenDay;
@@ -24,10 +25,10 @@ impl OpenDay {
     }
 
     // The price of a side's best level, where it betters the quotation and is old enough.
-    fn ripe(&self, side: Side, time: u32, best: Option<Level>) -> Option<u32>
-        ensures { result ≡ ripe_of self.now.figures side time best }
+    fn ripe<B: Board>(&self, board: &B, side: Side, time: u32) -> Option<u32>
+        ensures { result ≡ ripe_of self.now.figures side time (best_of (B.Board.book board.now) side) }
     {
-        let level = best?;
+        let level = board.best(side)?;
         let age = time.saturating_sub(level.since);
         let required = FULL_TIME - credit(side, level, *self.figures.forerunners.of(side));
         let is_ripe = side.betters(level.price, self.figures.quotation) && age >= required;
@@ -38,8 +39,8 @@ impl OpenDay {
     pub(crate) fn quotation_at<B: Board>(&self, board: &B, time: u32) -> u32
         ensures { result ≡ quotation_at self.now.figures (B.Board.book board.now) time }
     {
-        let buy = self.ripe(Side::Buy, time, board.best(Side::Buy));
-        let sell = self.ripe(Side::Sell, time, board.best(Side::Sell));
+        let buy = self.ripe(board, Side::Buy, time);
+        let sell = self.ripe(board, Side::Sell, time);
         buy.or(sell).unwrap_or(self.figures.quotation)
     }
 
