@@ -5,8 +5,9 @@ ghost use Rattle.layout.specs.Reading.{taken, next, place_after, seen_after};
 
 use super::record::decode;
 use entry::Entry;
+use entry::kinds::Kind;
 use entry::refusals::Refusal;
-use layout::kinds::Kind;
+use layout::kinds;
 
 // The longest feed that is taken, in bytes.
 pub(crate) const LONGEST: usize = 65_536;
@@ -58,13 +59,9 @@ impl<'a> Reader<'a> {
         if self.at == self.feed.len() {
             return Ok(None);
         }
-        match decode(&self.feed[self.at..], self.seen + 1, 8 * self.at) {
-            Ok(entry) => {
-                self.at += Kind::of(entry).size();
-                self.seen += 1;
-                Ok(Some(entry))
-            }
-            Err(refusal) => Err(refusal),
-        }
+        let entry = decode(&self.feed[self.at..], self.seen + 1, 8 * self.at)?;
+        self.at += kinds::size(Kind::of(entry));
+        self.seen += 1;
+        Ok(Some(entry))
     }
 }

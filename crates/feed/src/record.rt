@@ -7,9 +7,10 @@ ghost use Rattle.layout.specs.Writing.{answer_with, output_with, answer, output}
 
 use super::cursor::{Cursor, all_fit, put, put_all};
 use super::words::bits;
+use entry::kinds::Kind;
 use entry::refusals::Refusal;
 use entry::{Entry, Params, Side};
-use layout::kinds::Kind;
+use layout::kinds;
 
 fn side_of(bit: u32) -> Side
     ensures answer { result ≡ side_of bit }
@@ -20,7 +21,6 @@ fn side_of(bit: u32) -> Side
 // The entry in a whole record.
 fn entry_of(kind: Kind, src: &[u8]) -> Entry
     requires whole { length src.now ≡ size_of kind }
-    requires bytes { AreBytes src.now }
     ensures answer { result ≡ entry_of kind (fields src.now 4 (widths_of kind)) }
 {
     let time = bits(src, 4, 30);
@@ -64,31 +64,28 @@ fn entry_of(kind: Kind, src: &[u8]) -> Entry
     }
 }
 
-// The entry of the first record, which has this number and starts at this bit of its feed.
+// The entry of the first record, which has this number and starts at this bit of its feed. The reader's proof learns from
+// `bytes` what the type says of its feed.
 pub(crate) fn decode(src: &[u8], number: usize, bit: usize) -> Result<Entry, Refusal>
     requires some { 0 < length src.now }
     requires short { bit ≤ 524288 }
     ensures answer { result ≡ first_record src.now number bit }
     ensures bytes { AreBytes src.now }
 {
-    let Some(kind) = Kind::from_code(src[0] >> 4) else {
-        return Err(Refusal::UnknownKind {
-            record: number,
-            bit,
-        });
-    };
-    let size = kind.size();
-    if src.len() < size {
-        return Err(Refusal::FeedEnds {
-            record: number,
-            bit,
-        });
-    }
-    let record = &src[0..size];
-    if bits(record, kind.bits(), 8 * size - kind.bits()) != 0 {
+    let kind = Kind::try_from(src[0] >> 4).map_err(|_| Refusal::UnknownKind {
+        record: number,
+        bit,
+    })?;
+    let size = kinds::size(kind);
+    let record = src.get(..size).ok_or(Refusal::FeedEnds {
+        record: number,
+        bit,
+    })?;
+    let used = kinds::bits(kind);
+    if bits(record, used, 8 * size - used) != 0 {
         return Err(Refusal::SpareBitSet {
             record: number,
-            bit: bit + kind.bits(),
+            bit: bit + used,
         });
     }
     Ok(entry_of(kind, record))
@@ -103,14 +100,14 @@ fn write(out: &mut [u8], kind: Kind, widths: &[u8], values: &[u32]) -> Result<us
     if !all_fit(widths, values) {
         return Err(Refusal::OutOfRange);
     }
-    let size = kind.size();
+    let size = kinds::size(kind);
     if out.len() < size {
         return Err(Refusal::OutputShort);
     }
     let start = Cursor {
         at: 0,
         held: 4,
-        rest: kind.code() as u64,
+        rest: u8::from(kind) as u64,
     };
     let end = put_all(out, start, widths, values);
     let _whole = put(out, end, (8 - end.held) % 8, 0);

@@ -1,9 +1,11 @@
 -- What a record that is read has, and what the reader answers.
-use Rattle.std.proofs.Common.{◌≡◌, ℕ, ◌+◌, ◌-◌, ◌*◌, ◌/◌, ◌≤◌, Bool, true, false, cond, eqb, ltb, List, length, get_or, take, drop, Some, None, Ok, Err, Option, Result, sym, refl, ap, ◌∙◌, subst, arith, ltb-false, ne_eqb, eqb-true}
+use Rattle.std.proofs.Common.{◌≡◌, ℕ, ◌+◌, ◌-◌, ◌*◌, ◌/◌, ◌≤◌, Bool, true, false, cond, eqb, ltb, List, length, get_or, take, drop, Some, None, Ok, Err, Option, Result, sym, refl, ap, ◌∙◌, subst, arith, le-ltb, ltb-false, ne_eqb, eqb-true}
+use Rattle.std.proofs.lemmas.Bool.{cond-false}
 use Rattle.std.proofs.lemmas.List.{length-drop}
 use Rattle.entry.specs.declared.Entry.{Entry}
 use Rattle.entry.specs.declared.refusals.Refusal.{Refusal}
-use Rattle.layout.specs.declared.kinds.Kind.{Kind}
+use Rattle.entry.specs.declared.refusals.Refusal.TheVariants as why
+use Rattle.entry.specs.declared.kinds.Kind.{Kind}
 use Rattle.layout.specs.Bits.{field, fields}
 use Rattle.layout.specs.Layout.{widths, kind_of, kind_from, entry_of, bits_for, spare_for, size}
 use Rattle.layout.specs.Reading.{record_as, first_record, some_of, next}
@@ -19,6 +21,15 @@ past-test f r false p = (refl, p)
 past_last : {X Y : Type 0} {x : X} (f : Y) (r : Result X Y) (b : Bool) → cond b r (Err f) ≡ Ok x → (b ≡ true) × (r ≡ Ok x)
 past_last f r true p = (refl, p)
 past_last f r false p = absurd (never p)
+
+-- the answer where a kind has the code and all of its record is there
+pub record_there :
+    (bs : List ℕ) (r b : ℕ) (kind : Kind) → kind_from (get_or bs 0 0 / 16) ≡ Some kind → size kind ≤ length bs →
+    first_record bs r b
+    ≡ cond (eqb (field (take (size kind) bs) (bits_for (widths kind)) (spare_for (widths kind))) 0)
+    (Ok (entry_of kind (fields (take (size kind) bs) 4 (widths kind)))) (Err (why.SpareBitSet r (b + bits_for (widths kind))))
+record_there bs r b kind known long =
+    ap (λ (o : Option Kind). record_as o bs r b) known ∙ cond-false (ltb (length bs) (size kind)) _ _ (le-ltb (length bs) (size kind) long)
 
 -- what holds where an entry was read
 pub record Read (bs : List ℕ) (e : Entry) : Type 0 where

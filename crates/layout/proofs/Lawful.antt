@@ -10,8 +10,8 @@ use Rattle.entry.specs.declared.Entry.TheVariants as e
 use Rattle.entry.specs.declared.refusals.Refusal.{Refusal}
 use Rattle.entry.specs.declared.refusals.Refusal.TheVariants as why
 use Rattle.entry.specs.Refusals.{told}
-use Rattle.layout.specs.declared.kinds.Kind.{Kind}
-use Rattle.layout.specs.declared.kinds.Kind.TheVariants as k
+use Rattle.entry.specs.declared.kinds.Kind.{Kind}
+use Rattle.entry.specs.declared.kinds.Kind.TheVariants as k
 use Rattle.layout.specs.Bits.{AreBytes, field, fields, fit}
 use Rattle.layout.specs.Layout.{code, widths, kind_of, bit, side_of, values, entry_of, kind_from, bits_for, spare_for, bytes_for, size, fits, record_with, record_of}
 use Rattle.layout.specs.Reading.{record_as, first_record}
@@ -21,7 +21,7 @@ use Rattle.layout.proofs.Written.{written_ok}
 use Rattle.layout.proofs.EachKind.{code_lt, some_bytes}
 use Rattle.layout.proofs.Numbers.{bytes_take}
 use Rattle.layout.proofs.Back.{fields_fit, record_back, record_code, record_spare, record_fields, length_record}
-use Rattle.layout.proofs.Decoded.{read}
+use Rattle.layout.proofs.Decoded.{record_there, read}
 
 pub kind_back : (kind : Kind) → kind_from (code kind) ≡ Some kind
 kind_back k.Clock = refl
@@ -73,15 +73,14 @@ values_back k.Reference bs = refl
 values_back k.Ruling bs = refl
 
 -- a whole record with no spare bit set is read
-read_whole :
+pub read_whole :
     (bs : List ℕ) (r b : ℕ) (kind : Kind) → kind_from (get_or bs 0 0 / 16) ≡ Some kind → size kind ≤ length bs →
     field (take (size kind) bs) (bits_for (widths kind)) (spare_for (widths kind)) ≡ 0 →
     first_record bs r b ≡ Ok (entry_of kind (fields (take (size kind) bs) 4 (widths kind)))
 read_whole bs r b kind known long z =
-    ap (λ (o : Option Kind). record_as o bs r b) known
-    ∙ (cond-false (ltb (length bs) (size kind)) _ _ (le-ltb (length bs) (size kind) long)
+    record_there bs r b kind known long
     ∙ cond-true (eqb (field (take (size kind) bs) (bits_for (widths kind)) (spare_for (widths kind))) 0) _ _
-    (eq-eqb (field (take (size kind) bs) (bits_for (widths kind)) (spare_for (widths kind))) 0 z))
+    (eq-eqb (field (take (size kind) bs) (bits_for (widths kind)) (spare_for (widths kind))) 0 z)
 
 -- what is written is read: bytes that begin with an entry's record are read as that entry
 pub reads_back : (e : Entry) (rest : List ℕ) (r b : ℕ) → fits e ≡ true → first_record (record_of e ++ rest) r b ≡ Ok e

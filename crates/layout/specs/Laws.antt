@@ -3,7 +3,7 @@ use Rattle.std.specs.Prelude.{◌≡◌, ℕ, ◌+◌, ◌*◌, ◌/◌, ◌<◌
 use Rattle.entry.specs.declared.Entry.{Entry}
 use Rattle.entry.specs.declared.refusals.Refusal.{Refusal}
 use Rattle.entry.specs.Refusals.{told}
-use Rattle.layout.specs.declared.kinds.Kind.{Kind}
+use Rattle.entry.specs.declared.kinds.Kind.{Kind}
 use Rattle.layout.specs.Layout.{code, widths, kind_of, bits_for, size, fits, record_of, feed_of}
 use Rattle.layout.specs.Reading.{taken, next}
 

@@ -3,7 +3,7 @@ use Rattle.std.specs.Prelude.{ℕ, ◌+◌, ◌*◌, ◌/◌, cond, List, length
 use Rattle.entry.specs.declared.Entry.{Entry}
 use Rattle.entry.specs.declared.refusals.Refusal.{Refusal}
 use Rattle.entry.specs.declared.refusals.Refusal.TheVariants as why
-use Rattle.layout.specs.declared.kinds.Kind.{Kind}
+use Rattle.entry.specs.declared.kinds.Kind.{Kind}
 use Rattle.layout.specs.Bits.{field, fields}
 use Rattle.layout.specs.Layout.{widths, kind_from, entry_of, bits_for, spare_for, size, kind_of}
 

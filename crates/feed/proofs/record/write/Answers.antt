@@ -33,12 +33,12 @@ returns c =
     fit_by _ _ _ _ c.requires.layout.0 c.all_fit.ensures.answer ∙ c.if-not-all_fit.false in
     let room : bytes_for (widths c.args.kind) ≤ length c.args.out.now = omega arith in
     let bits : total c.args.widths.now ≡ total (widths c.args.kind) = ap total c.requires.layout.0 in
-    let start : Wrote c.args.out.now 0 4 c.code.result c.code.result =
-    (refl, sym (mod-eq_of_lt (subst (λ (x : ℕ). x < 16) (sym c.code.ensures.answer) (code_lt c.args.kind)))) in
-    let number : packed c.code.result c.args.widths.now c.args.values.now ≡ packed (code c.args.kind) (widths c.args.kind) c.args.values.now =
-    ap (λ (x : ℕ). packed x c.args.widths.now c.args.values.now) c.code.ensures.answer
+    let start : Wrote c.args.out.now 0 4 c.from.result c.from.result =
+    (refl, sym (mod-eq_of_lt (subst (λ (x : ℕ). x < 16) (sym c.from.ensures) (code_lt c.args.kind)))) in
+    let number : packed c.from.result c.args.widths.now c.args.values.now ≡ packed (code c.args.kind) (widths c.args.kind) c.args.values.now =
+    ap (λ (x : ℕ). packed x c.args.widths.now c.args.values.now) c.from.ensures
     ∙ ap (λ (x : List ℕ). packed (code c.args.kind) x c.args.values.now) c.requires.layout.0 in
-    let wrote = c.put-whole.ensures.wrote _ (c.put_all-end.ensures.wrote c.code.result start) in
+    let wrote = c.put-whole.ensures.wrote _ (c.put_all-end.ensures.wrote c.from.result start) in
     let pad : ℕ = (8 - c.put_all-end.result.held) % 8 in
     record {
       answer = ap (λ (x : ℕ). Ok x) c.size-size.ensures.answer ∙ sym (accepted (code c.args.kind) ws vs out fitting room);
