@@ -1,4 +1,4 @@
-// How long the record of each kind is.
+// How long the record of each kind is: functions and no methods, since the kinds are a type of a crate that knows no feed.
 ghost use Rattle.std.specs.Prelude.{◌≡◌};
 ghost use Rattle.layout.specs.Layout.{size, widths, bits_for};
 

@@ -1,6 +1,6 @@
 use Rattle.std.proofs.Common.{◌≡◌, ℕ, ◌+◌, ◌*◌, ◌^◌, ◌<◌, ◌≤◌, drop}
 use Rattle.feed.specs.Cursor.{Wrote}
-use Rattle.feed.proofs.cursor.put.Given as goal
+use Rattle.feed.proofs.cursor.Cursor.put.Given as goal
 
 abbrev pub invariant-loop-held : goal.invariant-loop-held
 invariant-loop-held l =
