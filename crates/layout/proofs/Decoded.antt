@@ -1,7 +1,6 @@
 -- What a record that is read has, and what the reader answers.
-use Rattle.std.proofs.Common.{◌≡◌, ℕ, ◌+◌, ◌-◌, ◌*◌, ◌/◌, ◌≤◌, Bool, true, false, cond, eqb, ltb, List, length, get_or, take, drop, Some, None, Ok, Err, Option, Result, sym, refl, ap, ◌∙◌, subst, arith, le-ltb, ltb-false, ne_eqb, eqb-true}
+use Rattle.std.proofs.Common.{◌≡◌, ℕ, ◌+◌, ◌*◌, ◌/◌, ◌≤◌, Bool, true, false, cond, eqb, ltb, List, length, get_or, take, drop, Some, None, Ok, Err, Option, Result, sym, refl, ap, ◌∙◌, subst, arith, le-ltb, ltb-false, ne_eqb, eqb-true}
 use Rattle.std.proofs.lemmas.Bool.{cond-false}
-use Rattle.std.proofs.lemmas.List.{length-drop}
 use Rattle.entry.specs.declared.Entry.{Entry}
 use Rattle.entry.specs.declared.refusals.Refusal.{Refusal}
 use Rattle.entry.specs.declared.refusals.Refusal.TheVariants as why
@@ -60,10 +59,6 @@ read bs r b e p = read_by bs r b e (kind_from (get_or bs 0 0 / 16)) refl p
 
 pub read_long : (bs : List ℕ) (r b : ℕ) (e : Entry) → first_record bs r b ≡ Ok e → size (kind_of e) ≤ length bs
 read_long bs r b e p = let h = read bs r b e p in subst (λ (x : Kind). size x ≤ length bs) (sym h.same) h.long
-
-pub read_within :
-    (feed bs : List ℕ) (at r b : ℕ) (e : Entry) → bs ≡ drop at feed → Ok e ≡ first_record bs r b → size (kind_of e) ≤ length feed - at
-read_within feed bs at r b e p q = omega (arith, read_long bs r b e (sym q), ap length p, length-drop at feed)
 
 -- the reader's answer before the feed's end
 pub next_by :

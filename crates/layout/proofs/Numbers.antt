@@ -1,6 +1,6 @@
 -- Numbers as bytes, and the numbers in fields of bits.
 use Rattle.std.proofs.Common.{◌≡◌, ℕ, zero, suc, ◌+◌, ◌-◌, ◌*◌, ◌/◌, ◌%◌, ◌^◌, ◌<◌, ◌≤◌, List, [], ◌∷◌, ◌++◌, length, get_or, take, drop, sym, refl, ap, ◌∙◌, subst, inl, inr, mul_assoc, add-mul, add-one, arith, pow-add, shr-shr}
-use lib.Pow.{high, low, field as field_of, mod-mod-pow, mod-pow-add}
+use lib.Pow.{high, low, field as field_of, mod-mod-pow}
 use lib.Arith.{digits_lt}
 use Rattle.std.proofs.lemmas.List.{take_more, length-append, length-take, length_push, take-append-drop, length-drop, get_or-drop, get_or-take, get_or_past}
 use Rattle.std.proofs.Math.Seq.{take-add}

@@ -1,5 +1,5 @@
 -- The layout of a record: kind, time, the kind's fields, zero bits to a whole byte.
-use Rattle.std.specs.Prelude.{ℕ, ◌+◌, ◌-◌, ◌*◌, ◌/◌, ◌^◌, Bool, cond, List, [], ◌∷◌, ◌++◌, Some, None, Option, ◌==◌, slice_index}
+use Rattle.std.specs.Prelude.{ℕ, ◌+◌, ◌-◌, ◌*◌, ◌/◌, ◌^◌, Bool, cond, List, [], ◌∷◌, ◌++◌, ◌==◌, slice_index}
 use Rattle.entry.specs.declared.Side.{Side}
 use Rattle.entry.specs.declared.Side.TheVariants.{Buy, Sell}
 use Rattle.entry.specs.declared.Entry.{Entry}

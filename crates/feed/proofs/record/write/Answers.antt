@@ -24,9 +24,6 @@ returns-then-out-size c =
     let refused = too_short (code c.args.kind) (widths c.args.kind) (values_in c.args.fields.now) c.args.out.now fitting (omega arith) in
     record { answer = refused.0; after = refused.1 }
 
-pub invariant_of-start : goal.invariant_of-start
-invariant_of-start c = record { part = (omega arith, subst (λ (x : ℕ). x < 16) (sym c.from.ensures) (code_lt c.args.kind)) }
-
 pub returns : goal.returns
 returns c =
     let ws = widths c.args.kind in

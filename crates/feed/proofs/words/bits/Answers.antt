@@ -1,7 +1,7 @@
 use Rattle.std.proofs.Common.{◌≡◌, ℕ, ◌+◌, ◌-◌, ◌*◌, ◌/◌, ◌%◌, ◌^◌, ◌<◌, ◌≤◌, List, length, get_or, take, drop, sym, ap, ◌∙◌, subst, lt_of_lt_of_le, arith, pow_mono}
 use lib.Bits.{bit_and, bit_or}
 use Rattle.std.proofs.lemmas.Nat.{and_mask, or_shifted, one_shl, shl_whole}
-use Rattle.std.proofs.lemmas.List.{length-take, length-drop, take_all}
+use Rattle.std.proofs.lemmas.List.{length-take, take_all}
 use Rattle.layout.specs.Bits.{AreBytes, spelt}
 use Rattle.layout.proofs.Numbers.{spelt-more, spelt_lt, spelt_between, bytes_drop, bytes_take, field_in}
 use Rattle.feed.proofs.words.bits.Goals as goal

@@ -28,17 +28,9 @@ loop-held-preserved c =
           ∙ (sym (drop-drop 1 c.loop-held.at c.loop-held.out) ∙ (ap (drop 1) c.loop-held.invariant.4 ∙ drop-drop 1 c.loop-held.at c.args.out.now)),
     )
 
-pub invariant_of-result : goal.invariant_of-result
-invariant_of-result c = record { part = (c.loop-held-test.false, c.loop-held.invariant.2) }
-
-pub returns : goal.returns
-returns c =
+pub returns-clause-wrote : goal.returns-clause-wrote
+returns-clause-wrote c n p =
     let e : bit_or ((c.args.self.rest * 2 ^ c.args.width) % 18446744073709551616) c.args.value ≡ c.args.self.rest * 2 ^ c.args.width + c.args.value =
     shifted c.args.self.rest c.args.self.held c.args.width c.args.value c.args.self.part.1 (omega arith) c.requires.field.1 in
-    record {
-      place = omega arith;
-      wrote = λ n p.
-          let q = put_start c.args.out.now c.args.self.at c.args.self.held c.args.self.rest n c.args.width c.args.value c.requires.field.1 p in
-          c.loop-held.invariant.3 (n * 2 ^ c.args.width + c.args.value) (q.0, e ∙ q.1);
-      kept = c.loop-held.invariant.4;
-    }
+    let q = put_start c.args.out.now c.args.self.at c.args.self.held c.args.self.rest n c.args.width c.args.value c.requires.field.1 p in
+    c.loop-held.invariant.3 (n * 2 ^ c.args.width + c.args.value) (q.0, e ∙ q.1)
