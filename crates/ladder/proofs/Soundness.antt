@@ -12,9 +12,8 @@ use Rattle.board.specs.Book.{Book, levels_of, better, level_at}
 use Rattle.board.specs.Calls.{added, taken, join_answer, on_ok}
 use Rattle.board.specs.Sound.{Sorted, AllProper, Sound}
 use Rattle.shelf.specs.Order.{ascends}
-use Rattle.ladder.specs.declared.records.BuyLevel.{BuyLevel}
-use Rattle.ladder.specs.declared.records.SellLevel.{SellLevel}
-use Rattle.ladder.specs.Records.{buy_key, sell_key, higher, lower, buys_in, sells_in, proper, all_proper}
+use Rattle.ladder.specs.declared.records.SideLevel.{SideLevel}
+use Rattle.ladder.specs.Records.{price_in, level_of, levels_in, proper, all_proper}
 use Rattle.ladder.specs.Counts.{counts_fit}
 use Rattle.ladder.proofs.Shelved.{sorted_levels}
 use Rattle.ladder.specs.OneSide.{add_answer_on, add_levels, take_answer_on, take_levels}
@@ -109,17 +108,17 @@ all-proper (x ∷ ls) a =
 pub counts_told : (m n : ℕ) → counts_fit m n ≡ true → (16 ≤ m) × (n ≡ m)
 counts_told m n e = (grind (arith, nat_tests), grind (arith, nat_tests))
 
-pub sound_of : (bs : List BuyLevel) (ss : List SellLevel) (room : ℕ) → 16 ≤ room → length bs ≤ room → length ss ≤ room → ascends buy_key higher bs ≡ true → ascends sell_key lower ss ≡ true → all_proper (buys_in bs) ≡ true → all_proper (sells_in ss) ≡ true → Sound (record { low = 1; high = 1000000000; room = room; buys = buys_in bs; sells = sells_in ss })
-sound_of bs ss room r m n a b p q =
-    let book : Book = record { low = 1; high = 1000000000; room = room; buys = buys_in bs; sells = sells_in ss } in
-    let lb = length-map bs (λ (x : BuyLevel). x.0) in
-    let ls = length-map ss (λ (x : SellLevel). x.0) in
+pub sound_of : {m n : ℕ} (bs : List (SideLevel m)) (ss : List (SideLevel n)) (room : ℕ) → 16 ≤ room → length bs ≤ room → length ss ≤ room → ascends price_in (better Buy) bs ≡ true → ascends price_in (better Sell) ss ≡ true → all_proper (levels_in bs) ≡ true → all_proper (levels_in ss) ≡ true → Sound (record { low = 1; high = 1000000000; room = room; buys = levels_in bs; sells = levels_in ss })
+sound_of {m = m} {n = n} bs ss room r k j a b p q =
+    let book : Book = record { low = 1; high = 1000000000; room = room; buys = levels_in bs; sells = levels_in ss } in
+    let lb = length-map bs (λ (x : SideLevel m). level_of x) in
+    let ls = length-map ss (λ (x : SideLevel n). level_of x) in
     record {
       lowest = omega arith;
       wide = omega arith;
       highest = omega arith;
       roomy = r;
       within = λ s. elim s as (λ v. length (levels_of book v) ≤ room) [ Buy ↦ omega arith | Sell ↦ omega arith ];
-      sorted = λ s. elim s as (λ v. Sorted v (levels_of book v)) [ Buy ↦ sorted_levels buy_key higher (λ (x : BuyLevel). x.0) Buy (λ _. refl) (λ _ _. refl) bs a | Sell ↦ sorted_levels sell_key lower (λ (x : SellLevel). x.0) Sell (λ _. refl) (λ _ _. refl) ss b ];
-      proper = λ s. elim s as (λ v. AllProper 1 1000000000 (levels_of book v)) [ Buy ↦ all-proper (buys_in bs) p | Sell ↦ all-proper (sells_in ss) q ];
+      sorted = λ s. elim s as (λ v. Sorted v (levels_of book v)) [ Buy ↦ sorted_levels price_in (better Buy) level_of Buy (λ _. refl) (λ _ _. refl) bs a | Sell ↦ sorted_levels price_in (better Sell) level_of Sell (λ _. refl) (λ _ _. refl) ss b ];
+      proper = λ s. elim s as (λ v. AllProper 1 1000000000 (levels_of book v)) [ Buy ↦ all-proper (levels_in bs) p | Sell ↦ all-proper (levels_in ss) q ];
     }

@@ -1,7 +1,7 @@
 // The ladder's first test, its making, and its calls as a board.
 ghost use Rattle.std.specs.Prelude.{◌≡◌, [], ◌∷◌, length, take, Ok};
 ghost use Rattle.board.specs.Book.{empty_book};
-ghost use Rattle.ladder.specs.Records.{buys_in, sells_in, lowest, highest};
+ghost use Rattle.ladder.specs.Records.{levels_in, lowest, highest};
 ghost use Rattle.ladder.specs.Counts.{counts_answer};
 ghost use Rattle.ladder.specs.Holding.{ladder_book, ladder_loans};
 
@@ -44,8 +44,8 @@ impl<'a> Ladder<'a> {
 
     /// Ends the ladder and hands the records back: the first of each side hold its levels, best first.
     pub fn into_records(self) -> (&'a mut [BuyLevel], &'a mut [SellLevel])
-        ensures buys { take (length (ladder_book self.entry).buys) (buys_in result.0.now) ≡ (ladder_book self.entry).buys }
-        ensures sells { take (length (ladder_book self.entry).sells) (sells_in result.1.now) ≡ (ladder_book self.entry).sells }
+        ensures buys { take (length (ladder_book self.entry).buys) (levels_in result.0.now) ≡ (ladder_book self.entry).buys }
+        ensures sells { take (length (ladder_book self.entry).sells) (levels_in result.1.now) ≡ (ladder_book self.entry).sells }
         ensures most { (length result.0.now ≡ (ladder_book self.entry).room) × (length result.1.now ≡ (ladder_book self.entry).room) }
         ensures lent { result.0.ghost_name ∷ result.1.ghost_name ∷ [] ≡ ladder_loans self.entry }
     {

@@ -6,8 +6,8 @@ mod one_side;
 pub mod records;
 
 ghost use Rattle.std.specs.Prelude.{◌≡◌, true, length};
-ghost use Rattle.shelf.specs.Standing.{Stands, live, held};
-ghost use Rattle.ladder.specs.Records.{buy_key, sell_key, higher, lower, buys_in, sells_in, all_proper};
+ghost use Rattle.shelf.specs.Standing.{live, held};
+ghost use Rattle.ladder.specs.Records.{levels_in, all_proper};
 ghost use Rattle.ladder.specs.Counts.{counts_fit};
 
 use records::{BuyLevel, SellLevel};
@@ -18,9 +18,7 @@ use shelf::Shelf;
 pub struct Ladder<'a> {
     buys: Shelf<'a, BuyLevel>,
     sells: Shelf<'a, SellLevel>,
-    ghost buys_stand: { Stands buy_key higher buys },
-    ghost sells_stand: { Stands sell_key lower sells },
-    ghost buys_proper: { all_proper (buys_in (live buys)) ≡ true },
-    ghost sells_proper: { all_proper (sells_in (live sells)) ≡ true },
+    ghost buys_proper: { all_proper (levels_in (live buys)) ≡ true },
+    ghost sells_proper: { all_proper (levels_in (live sells)) ≡ true },
     ghost counts: { counts_fit (length (held buys)) (length (held sells)) ≡ true },
 }

@@ -1,33 +1,32 @@
 -- An order leaves the level that stands, and the last one takes the level with it.
-use Rattle.std.proofs.Common.{refl, ap, ◌∙◌}
-use Rattle.board.specs.Levels.{less_answer}
+use Rattle.std.proofs.Common.{refl}
 use Rattle.shelf.specs.Standing.{live}
+use Rattle.ladder.specs.Records.{price_in, level_of}
+use Rattle.ladder.specs.Better.{better_transitive}
 use Rattle.ladder.proofs.Answered.{there, leave_none, leave_done, leave_last}
 use Rattle.ladder.proofs.one_side.take_on.Goals as goal
 
-pub returns-in-Err : goal.returns-in-Err
-returns-in-Err g c =
+pub returns-in_default : goal.returns-in_default
+returns-in_default g c =
     let s = c.args.shelf.now in
-    let d = leave_none g.R.Record.key g.R.Record.before g.R.LevelRecord.level g.R.LevelRecord.side g.met.R.LevelRecord.priced g.met.R.LevelRecord.ranked g.met.R.Record.transitive c.args.price (live s) c.in-Err.field-0 c.requires.1 c.in-Err.ensures in
-    record { answer = d.answer; levels = d.levels; stands = c.requires; most = refl; lent = refl }
+    let d = leave_none price_in _ level_of _ (λ x. refl) (λ p q. refl) (better_transitive _) c.args.price (live s) c.in_default.field-0 s.sorted c.in_default.ensures in
+    record { answer = d.answer; levels = d.levels; most = refl; lent = refl }
 
 pub unreachable-requires : goal.unreachable-requires
 unreachable-requires g c =
     let s = c.args.shelf.now in
-    there g.R.Record.key g.R.Record.before g.R.LevelRecord.level g.R.LevelRecord.side g.met.R.LevelRecord.priced g.met.R.LevelRecord.ranked c.args.price (live s) c.in-Ok.at c.in-Ok.ensures c.in_default.ensures
+    there price_in _ level_of _ (λ x. refl) (λ p q. refl) c.args.price (live s) c.in-Ok.at c.in-Ok.ensures c.in_default-get.ensures
 
 pub returns-in-Ok-replace : goal.returns-in-Ok-replace
 returns-in-Ok-replace g c =
     let s = c.args.shelf.now in
     let i = c.in-Ok-replace.ensures in
-    let a = c.in-Some-one_less.ensures.answer ∙ ap less_answer c.get_level.ensures in
-    let d = leave_done g.R.Record.key g.R.Record.before g.R.LevelRecord.level g.R.LevelRecord.side g.met.R.LevelRecord.priced g.met.R.LevelRecord.ranked c.args.price (live s) c.in-Ok.at c.in-Ok.ensures c.in-Some.record c.in-Some.ensures c.in-Some-one_less.left c.hold.result _ a c.hold.ensures i.answer i.live in
-    record { answer = d.answer; levels = d.levels; stands = i.stands; most = i.most; lent = i.lent }
+    let d = leave_done price_in _ level_of _ (λ x. refl) (λ p q. refl) c.args.price (live s) c.in-Ok.at c.in-Ok.ensures c.in-Some.record c.in-Some.ensures c.in-Some-one_less.left _ _ c.in-Some-one_less.ensures.answer refl i.answer i.live in
+    record { answer = d.answer; levels = d.levels; most = i.most; lent = i.lent }
 
 pub returns-in-None : goal.returns-in-None
 returns-in-None g c =
     let s = c.args.shelf.now in
     let i = c.remove.ensures in
-    let a = c.in-None.ensures.answer ∙ ap less_answer c.get_level.ensures in
-    let d = leave_last g.R.Record.key g.R.Record.before g.R.LevelRecord.level g.R.LevelRecord.side g.met.R.LevelRecord.priced g.met.R.LevelRecord.ranked c.args.price (live s) c.in-Ok.at c.in-Ok.ensures c.in-Some.record c.in-Some.ensures _ a i.live in
-    record { answer = d.answer; levels = d.levels; stands = i.stands; most = i.most; lent = i.lent }
+    let d = leave_last price_in _ level_of _ (λ x. refl) (λ p q. refl) c.args.price (live s) c.in-Ok.at c.in-Ok.ensures c.in-Some.record c.in-Some.ensures _ c.in-None.ensures.answer i.live in
+    record { answer = d.answer; levels = d.levels; most = i.most; lent = i.lent }

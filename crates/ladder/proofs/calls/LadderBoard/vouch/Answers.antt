@@ -9,6 +9,6 @@ pub returns : goal.returns
 returns c =
     let l = c.args.self.now in
     let n = counts_told (length (held l.buys)) (length (held l.sells)) l.counts in
-    let b = length-take-le l.buys.len (held l.buys) l.buys_stand.0 in
-    let s = length-take-le l.sells.len (held l.sells) l.sells_stand.0 in
-    sound_of (live l.buys) (live l.sells) (length (held l.buys)) n.0 (omega (arith, l.buys_stand.0)) (omega (arith, l.sells_stand.0, n.1)) l.buys_stand.1 l.sells_stand.1 l.buys_proper l.sells_proper
+    let b = length-take-le l.buys.len (held l.buys) l.buys.fits in
+    let s = length-take-le l.sells.len (held l.sells) l.sells.fits in
+    sound_of (live l.buys) (live l.sells) (length (held l.buys)) n.0 (omega (arith, l.buys.fits)) (omega (arith, l.sells.fits, n.1)) l.buys.sorted l.sells.sorted l.buys_proper l.sells_proper
