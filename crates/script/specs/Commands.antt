@@ -1,8 +1,8 @@
 -- How each command is spelt, and what is printed of it.
 use Rattle.std.specs.Prelude.{List, [], ◌∷◌, Some, None, codes, Option}
 use Rattle.entry.specs.declared.Entry.{Entry}
-use Rattle.script.specs.declared.command.Bounding.{Bounding}
-use Rattle.script.specs.declared.command.Bounding.TheVariants.{Free, Bounded}
+use Rattle.entry.specs.declared.windows.Bounding.{Bounding}
+use Rattle.entry.specs.declared.windows.Bounding.TheVariants.{Free, Bounded}
 use Rattle.script.specs.declared.command.LimitKind.{LimitKind}
 use Rattle.script.specs.declared.command.LimitKind.TheVariants.{Static, Dynamic}
 use Rattle.script.specs.declared.command.Command.{Command}
@@ -21,8 +21,8 @@ limit_text Dynamic = codes "dynamic"
 abbrev pub command_parts : Command → List Part
 command_parts (asks.FixedPlan days group) = name (codes "plan") ∷ name (codes "fixed") ∷ figure days ∷ figure group ∷ []
 command_parts asks.AnnouncedPlan = name (codes "plan") ∷ name (codes "announced") ∷ []
-command_parts (asks.Window start end session bounding k) =
-    name (codes "window") ∷ figure start ∷ figure end ∷ code session ∷ name (bounding_text bounding) ∷ figure k ∷ []
+command_parts (asks.Window w) =
+    name (codes "window") ∷ figure w.start ∷ figure w.end ∷ code w.session ∷ name (bounding_text w.bounding) ∷ figure w.k ∷ []
 command_parts (asks.Session time) = name (codes "session") ∷ figure time ∷ []
 command_parts (asks.Ladder count) = name (codes "board") ∷ name (codes "ladder") ∷ figure count ∷ []
 command_parts (asks.Grid start) = name (codes "board") ∷ name (codes "grid") ∷ figure start ∷ []
@@ -44,7 +44,7 @@ abbrev pub entry_in : Command → Option Entry
 entry_in (asks.Entry entry) = Some entry
 entry_in (asks.FixedPlan days group) = None
 entry_in asks.AnnouncedPlan = None
-entry_in (asks.Window start end session bounding k) = None
+entry_in (asks.Window w) = None
 entry_in (asks.Session time) = None
 entry_in (asks.Ladder count) = None
 entry_in (asks.Grid start) = None

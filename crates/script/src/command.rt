@@ -2,24 +2,18 @@
 ghost use Rattle.std.specs.Prelude.{◌≡◌};
 ghost use Rattle.script.specs.Commands.{entry_in};
 
+pub use entry::windows::{Announcement, Bounding};
 use entry::{Entry, Params, Side};
 
-/// Whether a window bounds its prices.
-#[derive(Clone, Copy)]
-pub enum Bounding {
-    Free,
-    Bounded,
-}
-
 /// Which of the two pairs of limits is asked for.
-#[derive(Clone, Copy)]
+#[derive(Clone, Copy, PartialEq, Eq, Debug)]
 pub enum LimitKind {
     Static,
     Dynamic,
 }
 
 /// One command of a day script, with raw figures: what they may be is judged where the command is carried out.
-#[derive(Clone, Copy)]
+#[derive(Clone, Copy, PartialEq, Eq, Debug)]
 pub enum Command<'a> {
     /// The plan of fixed hours for so many days and a group of securities.
     FixedPlan {
@@ -29,13 +23,7 @@ pub enum Command<'a> {
     /// A plan of announced windows, with none yet.
     AnnouncedPlan,
     /// A window for the announced plan.
-    Window {
-        start: u32,
-        end: u32,
-        session: u8,
-        bounding: Bounding,
-        k: u32,
-    },
+    Window(Announcement),
     /// Asks for the session at a time.
     Session {
         time: u32,

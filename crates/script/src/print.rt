@@ -3,7 +3,7 @@ ghost use Rattle.std.specs.Prelude.{Some};
 ghost use Rattle.script.specs.Commands.{bounding_text, limit_text, command_text};
 ghost use Rattle.script.specs.Print.{entry_text, side_text, params_text, refusal_text};
 
-use crate::command::{Bounding, Command, LimitKind};
+use crate::command::{Announcement, Bounding, Command, LimitKind};
 use entry::refusals::Refusal;
 use entry::{Entry, Params, Side};
 use std::fmt;
@@ -79,11 +79,11 @@ impl fmt::Display for Plain<Refusal> {
     }
 }
 
-impl fmt::Display for Bounding {
-    ghost output = { λ bounding. Some (bounding_text bounding) };
+impl fmt::Display for Plain<Bounding> {
+    ghost output = { λ plain. Some (bounding_text plain.0) };
 
     fn fmt<W: fmt::Write>(&self, f: &mut fmt::Formatter<W>) -> fmt::Result {
-        match *self {
+        match self.0 {
             Bounding::Free => write!(f, "free"),
             Bounding::Bounded => write!(f, "bounded"),
         }
@@ -108,13 +108,13 @@ impl fmt::Display for Command<'_> {
         match *self {
             Command::FixedPlan { days, group } => write!(f, "plan fixed {days} {group}"),
             Command::AnnouncedPlan => write!(f, "plan announced"),
-            Command::Window {
+            Command::Window(Announcement {
                 start,
                 end,
                 session,
                 bounding,
                 k,
-            } => write!(f, "window {start} {end} {session} {bounding} {k}"),
+            }) => write!(f, "window {start} {end} {session} {} {k}", Plain(bounding)),
             Command::Session { time } => write!(f, "session {time}"),
             Command::Ladder { count } => write!(f, "board ladder {count}"),
             Command::Grid { start } => write!(f, "board grid {start}"),
