@@ -1,11 +1,10 @@
 -- What a comparison of words says.
-use Rattle.std.proofs.Common.{◌≡◌, ℕ, Bool, true, false, cond, Some, None, sym, ap, ◌∙◌, arith}
+use Rattle.std.proofs.Common.{◌≡◌, ℕ, Bool, true, false, cond, Some, None, Option, sym, ap, ◌∙◌, arith}
 use Rattle.std.proofs.lemmas.Bool.Decides.{Decides-eqb}
 use Rattle.std.proofs.lemmas.Slice.Eq.{bytes_eq-Decides, slice_eq-Decides}
 use Rattle.std.specs.Bool.{Decides}
 use Rattle.std.specs.Str.{bytes_eq}
 use Rattle.script.specs.Spelling.{Bytes}
-use Rattle.script_words.specs.Reading.{is_first}
 use Rattle.script_words.proofs.Cuts.{other_not}
 
 -- what a comparison that was made says of the two words
@@ -21,16 +20,3 @@ same {v} {w} e = (bytes_eq-Decides v w).1 e
 
 pub differs : {v w : Bytes} → (v ≡ w → ⊥) → bytes_eq v w ≡ false
 differs {v} {w} h = other_not _ (λ e. h ((bytes_eq-Decides v w).0 e))
-
-module _ (this that w : Bytes) where
-  pub is_this : w ≡ this → is_first this that w ≡ Some true
-  is_this e = ap (λ b. cond b (Some true) (cond (bytes_eq w that) (Some false) None)) (same e)
-
-  not-this : (w ≡ this → ⊥) → is_first this that w ≡ cond (bytes_eq w that) (Some false) None
-  not-this h = ap (λ b. cond b (Some true) (cond (bytes_eq w that) (Some false) None)) (differs h)
-
-  pub is_that : (w ≡ this → ⊥) → w ≡ that → is_first this that w ≡ Some false
-  is_that h e = not-this h ∙ ap (λ b. cond b (Some false) None) (same e)
-
-  pub is_neither : (w ≡ this → ⊥) → (w ≡ that → ⊥) → is_first this that w ≡ None
-  is_neither h k = not-this h ∙ ap (λ b. cond b (Some false) None) (differs k)

@@ -1,31 +1,35 @@
 -- A cut beside a blank falls between characters, and the run between two cuts is the first word.
-use Rattle.std.proofs.Common.{◌≡◌, ◌<◌, true, false, length, get_or, take, drop, IsUtf8, sym, ap, ◌∙◌, subst}
-use Rattle.script_words.specs.Words.{Run, is_blank, words_of, first}
-use Rattle.script_words.proofs.Cuts.{boundary_after_blanks, boundary_after-word, words_after_blanks, words_first, starts_after_blanks}
+use Rattle.std.proofs.Common.{◌≡◌, false, length, drop, Some, None, IsUtf8, unwrap_or, ap, ◌∙◌, sym, subst}
+use Rattle.std.specs.List.{position}
+use Rattle.script_words.specs.Words.{is_blank}
+use Rattle.script_words.proofs.Cuts.{Run, is_solid, boundary_after_blanks, boundary_after-word, blanks_before, solid_before, first_cut, no_words}
 use Rattle.script_words.proofs.words.first_word.Goals as goal
-use Rattle.script_words.proofs.words.first_word.Goals.{After-run_len, After-run_len-2}
+use Rattle.script_words.proofs.words.first_word.Goals.{In_ok-first_solid, After-unwrap_or-end}
 
-blanks : (c : After-run_len) → Run c.args.text.now true c.run_len.result
-blanks c = subst (λ l. Run l true c.run_len.result) c.as_bytes.ensures.value c.run_len.ensures.answer
+start : (c : In_ok-first_solid) → position is_solid c.args.text.now ≡ Some c.in_ok-first_solid.field-0
+start c = sym (c.first_solid.ensures.answer ∙ ap (position is_solid) c.as_bytes.ensures.value) ∙ c.in_ok-first_solid.was
 
-word : (c : After-run_len-2) → Run c.split_at.result.1.now false c.run_len-2.result
-word c = subst (λ l. Run l false c.run_len-2.result) c.as_bytes-2.ensures.value c.run_len-2.ensures.answer
+word : (c : After-unwrap_or-end) → Run c.split_at.result.1.now false c.unwrap_or-end.result
+word c =
+    let answer : c.first_blank.result ≡ position is_blank c.split_at.result.1.now = c.first_blank.ensures.answer ∙ ap (position is_blank) c.as_bytes-2.ensures.value in
+    subst (Run c.split_at.result.1.now false) (sym c.unwrap_or-end.ensures) (solid_before c.split_at.result.1.now c.first_blank.result answer)
+
+pub returns-in_err-first_solid : goal.returns-in_err-first_solid
+returns-in_err-first_solid c =
+    let none : position is_solid c.args.text.now ≡ None = sym (c.first_solid.ensures.answer ∙ ap (position is_solid) c.as_bytes.ensures.value) ∙ c.in_err-first_solid.was in
+    rw c.from_residual.ensures (record { answer = no_words c.args.text.now none })
 
 pub split_at-requires : goal.split_at-requires
-split_at-requires c = boundary_after_blanks _ _ (subst IsUtf8 c.as_bytes.ensures.value c.as_bytes.ensures.utf8) (blanks c)
+split_at-requires c =
+    boundary_after_blanks _ _ (subst IsUtf8 c.as_bytes.ensures.value c.as_bytes.ensures.utf8) (blanks_before c.args.text.now c.in_ok-first_solid.field-0 (start c))
 
 pub split_at-requires-2 : goal.split_at-requires-2
 split_at-requires-2 c = boundary_after-word _ _ (word c)
 
 pub returns : goal.returns
 returns c =
-    let text = c.args.text.now in
-    let from = c.split_at.result.1.now in
-    let n = c.run_len-2.result in
-    let lead = blanks (goal.at.returns c).After-run_len in
     let back = c.split_at.ensures.back in
-    let starts : 0 < length from → is_blank (get_or from 0 0) ≡ false =
-    subst (λ l. 0 < length l → is_blank (get_or l 0 0) ≡ false) (sym back) (starts_after_blanks text c.run_len.result lead) in
-    let cut : words_of text ≡ first (take n from) (words_of (drop n from)) =
-    words_after_blanks text c.run_len.result lead.all ∙ ap words_of (sym back) ∙ words_first from n starts (word (goal.at.returns c).After-run_len-2) in
-    record { answer = simp (c.split_at-2.ensures.front, c.split_at-2.ensures.back) cut }
+    let run : Run (drop c.in_ok-first_solid.field-0 c.args.text.now) false c.unwrap_or-end.result =
+    subst (λ l. Run l false c.unwrap_or-end.result) back (word (goal.at.returns c).After-unwrap_or-end) in
+    let cut = first_cut c.args.text.now c.in_ok-first_solid.field-0 c.unwrap_or-end.result (start (goal.at.returns c).In_ok-first_solid) run in
+    record { answer = simp (c.split_at-2.ensures.front, c.split_at-2.ensures.back, back) cut }
