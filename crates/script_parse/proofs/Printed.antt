@@ -73,38 +73,13 @@ entry_named (made.Reference time session price) = (refl, tt)
 entry_named (made.Ruling time price) = (refl, tt)
 
 words_read : (e : Entry) → Fits e → entry_of_words (map part_text (entry_parts e)) ≡ Some e
-words_read (made.Clock time) h = let t : time < 2 ^ 32 = h.1.0 in simp figure_decimal
-words_read (made.Post time side mode price) h =
-    let t : time < 2 ^ 32 = h.1.0 in
-    let m : mode < 2 ^ 8 = h.1.1.1.0 in
-    let p : price < 2 ^ 32 = h.1.1.1.1.0 in
-    simp (figure_decimal, side-word, code_decimal)
-words_read (made.Leave time side price) h =
-    let t : time < 2 ^ 32 = h.1.0 in
-    let p : price < 2 ^ 32 = h.1.1.1.0 in
-    simp (figure_decimal, side-word)
-words_read (made.Trade time mode price quantity) h =
-    let t : time < 2 ^ 32 = h.1.0 in
-    let m : mode < 2 ^ 8 = h.1.1.0 in
-    let p : price < 2 ^ 32 = h.1.1.1.0 in
-    let q : quantity < 2 ^ 32 = h.1.1.1.1.0 in
-    simp (figure_decimal, code_decimal)
-words_read (made.Parameters time params) h =
-    let t : time < 2 ^ 32 = h.1.0 in
-    let sp : params.sp < 2 ^ 32 = h.1.1.0 in
-    let l : params.l < 2 ^ 32 = h.1.1.1.0 in
-    let ur : params.ur < 2 ^ 32 = h.1.1.1.1.0 in
-    let lr : params.lr < 2 ^ 32 = h.1.1.1.1.1.0 in
-    simp figure_decimal
-words_read (made.Reference time session price) h =
-    let t : time < 2 ^ 32 = h.1.0 in
-    let s : session < 2 ^ 8 = h.1.1.0 in
-    let p : price < 2 ^ 32 = h.1.1.1.0 in
-    simp (figure_decimal, code_decimal)
-words_read (made.Ruling time price) h =
-    let t : time < 2 ^ 32 = h.1.0 in
-    let p : price < 2 ^ 32 = h.1.1.0 in
-    simp figure_decimal
+words_read (made.Clock time) h = grind (arith, figure_decimal)
+words_read (made.Post time side mode price) h = grind (arith, figure_decimal, side-word, code_decimal)
+words_read (made.Leave time side price) h = grind (arith, figure_decimal, side-word)
+words_read (made.Trade time mode price quantity) h = grind (arith, figure_decimal, code_decimal)
+words_read (made.Parameters time params) h = grind (arith, figure_decimal)
+words_read (made.Reference time session price) h = grind (arith, figure_decimal, code_decimal)
+words_read (made.Ruling time price) h = grind (arith, figure_decimal)
 
 pub entry_read : (e : Entry) → Fits e → entry_of (entry_text e) ≡ Some e
 entry_read e h =
@@ -116,7 +91,7 @@ entry_command : (command : Command) (e : Entry) → entry_in command ≡ Some e 
 entry_command (asks.Entry entry) e h = cc
 entry_command (asks.FixedPlan days group) e h = cc
 entry_command asks.AnnouncedPlan e h = cc
-entry_command (asks.Window start end session bounding k) e h = cc
+entry_command (asks.Window w) e h = cc
 entry_command (asks.Session time) e h = cc
 entry_command (asks.Ladder count) e h = cc
 entry_command (asks.Grid start) e h = cc

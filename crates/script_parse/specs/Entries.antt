@@ -1,15 +1,15 @@
 -- The entry that a line is.
-use Rattle.std.specs.Prelude.{ℕ, cond, List, [], ◌∷◌, Some, None, Ok, Err, codes, Option, Result}
+use Rattle.std.specs.Prelude.{◌≡◌, IfOk, ℕ, cond, List, [], ◌∷◌, Some, None, Ok, Err, codes, Option, Result}
 use Rattle.std.specs.Str.{bytes_eq}
 use Rattle.entry.specs.declared.Entry.{Entry}
 use Rattle.entry.specs.declared.Entry.TheVariants as made
+use Rattle.entry.specs.declared.kinds.Kind.{Kind}
+use Rattle.entry.specs.declared.kinds.Kind.TheVariants as kind
 use Rattle.script.specs.declared.command.Command.{Command}
 use Rattle.script.specs.Commands.{entry_in}
 use Rattle.script.specs.Spelling.{Bytes}
 use Rattle.script_words.specs.Reading.{Read, before, and_then, figure, code, side, params}
 use Rattle.script_words.specs.Words.{uncommented, words_of}
-use Rattle.script_parse.specs.declared.entries.Kind.{Kind}
-use Rattle.script_parse.specs.declared.entries.Kind.TheVariants as kind
 
 -- the kind of entry that a name begins
 abbrev pub kind_named : Bytes → Option Kind
@@ -57,6 +57,10 @@ entry_of line = entry_of_words (words_of (uncommented line))
 abbrev pub entry_answered : {E : Type 0} → Result Command E → List Bytes → Read Entry
 entry_answered (Ok command) ws = before ws (entry_in command)
 entry_answered (Err e) ws = None
+
+-- a command that was read is no entry
+abbrev pub NoEntry : {E : Type 0} → Result Command E → Type 0
+NoEntry read = IfOk read (λ command. entry_in command ≡ None)
 
 -- the entry that was read, if one was
 abbrev pub entry_parsed : {E : Type 0} → Result (Option Command) E → Option Entry

@@ -1,14 +1,13 @@
 // A line of a day script, read.
-ghost use Rattle.std.specs.Prelude.{◌≡◌, IfOk, Some, None as Nothing, Ok};
+ghost use Rattle.std.specs.Prelude.{◌≡◌, Some, Ok};
 ghost use Rattle.entry.specs.declared.Entry.{Entry};
 ghost use Rattle.script.specs.Spelling.{Fits};
 ghost use Rattle.script.specs.Print.{entry_text};
 ghost use Rattle.script_words.specs.Words.{left};
-ghost use Rattle.script.specs.Commands.{entry_in};
-ghost use Rattle.script_parse.specs.Entries.{entry_of, entry_if, entry_answered, entry_parsed, kind_named};
+ghost use Rattle.script_parse.specs.Entries.{entry_of, entry_if, entry_answered, entry_parsed, kind_named, NoEntry};
 
 use crate::entries::{entry, kind_named};
-use script::command::{Bounding, Command, LimitKind};
+use script::command::{Announcement, Bounding, Command, LimitKind};
 use script::faults::LineFault;
 use script_words::words::Words;
 
@@ -41,7 +40,7 @@ fn command<'a>(name: &'a str, words: &mut Words<'a>) -> Result<Command<'a>, Line
 
 /// Takes the words of a command that is no entry.
 fn other_command<'a>(name: &'a str, words: &mut Words<'a>) -> Result<Command<'a>, LineFault<'a>>
-    ensures answer { IfOk result (λ command. entry_in command ≡ Nothing) }
+    ensures answer { NoEntry result }
 {
     match name {
         "plan" => plan(words),
@@ -60,62 +59,77 @@ fn other_command<'a>(name: &'a str, words: &mut Words<'a>) -> Result<Command<'a>
     }
 }
 
+// Which of the two plans is asked for.
+#[derive(Clone, Copy)]
+enum PlanKind {
+    Fixed,
+    Announced,
+}
+
+// Which of the two boards is asked for.
+#[derive(Clone, Copy)]
+enum BoardKind {
+    Ladder,
+    Grid,
+}
+
 fn plan<'a>(words: &mut Words<'a>) -> Result<Command<'a>, LineFault<'a>>
-    ensures answer { IfOk result (λ command. entry_in command ≡ Nothing) }
+    ensures answer { NoEntry result }
 {
-    let fixed = words.is_first("fixed", "announced")?;
-    if !fixed {
-        return Ok(Command::AnnouncedPlan);
+    match words.choice(
+        ("fixed", PlanKind::Fixed),
+        ("announced", PlanKind::Announced),
+    )? {
+        PlanKind::Fixed => {
+            let days = words.figure("DAYS")?;
+            let group = words.figure("GROUP")?;
+            Ok(Command::FixedPlan { days, group })
+        }
+        PlanKind::Announced => Ok(Command::AnnouncedPlan),
     }
-    let days = words.figure("DAYS")?;
-    let group = words.figure("GROUP")?;
-    Ok(Command::FixedPlan { days, group })
 }
 
 fn window<'a>(words: &mut Words<'a>) -> Result<Command<'a>, LineFault<'a>>
-    ensures answer { IfOk result (λ command. entry_in command ≡ Nothing) }
+    ensures answer { NoEntry result }
 {
     let start = words.figure("START")?;
     let end = words.figure("END")?;
     let session = words.code("SESSION")?;
-    let free = words.is_first("free", "bounded")?;
+    let bounding = words.choice(("free", Bounding::Free), ("bounded", Bounding::Bounded))?;
     let k = words.figure("K")?;
-    let bounding = if free {
-        Bounding::Free
-    } else {
-        Bounding::Bounded
-    };
-    Ok(Command::Window {
+    Ok(Command::Window(Announcement {
         start,
         end,
         session,
         bounding,
         k,
-    })
+    }))
 }
 
 fn session<'a>(words: &mut Words<'a>) -> Result<Command<'a>, LineFault<'a>>
-    ensures answer { IfOk result (λ command. entry_in command ≡ Nothing) }
+    ensures answer { NoEntry result }
 {
     let time = words.figure("TIME")?;
     Ok(Command::Session { time })
 }
 
 fn board<'a>(words: &mut Words<'a>) -> Result<Command<'a>, LineFault<'a>>
-    ensures answer { IfOk result (λ command. entry_in command ≡ Nothing) }
+    ensures answer { NoEntry result }
 {
-    let ladder = words.is_first("ladder", "grid")?;
-    if ladder {
-        let count = words.figure("COUNT")?;
-        Ok(Command::Ladder { count })
-    } else {
-        let start = words.figure("START")?;
-        Ok(Command::Grid { start })
+    match words.choice(("ladder", BoardKind::Ladder), ("grid", BoardKind::Grid))? {
+        BoardKind::Ladder => {
+            let count = words.figure("COUNT")?;
+            Ok(Command::Ladder { count })
+        }
+        BoardKind::Grid => {
+            let start = words.figure("START")?;
+            Ok(Command::Grid { start })
+        }
     }
 }
 
 fn add<'a>(words: &mut Words<'a>) -> Result<Command<'a>, LineFault<'a>>
-    ensures answer { IfOk result (λ command. entry_in command ≡ Nothing) }
+    ensures answer { NoEntry result }
 {
     let side = words.side()?;
     let price = words.figure("PRICE")?;
@@ -124,7 +138,7 @@ fn add<'a>(words: &mut Words<'a>) -> Result<Command<'a>, LineFault<'a>>
 }
 
 fn take<'a>(words: &mut Words<'a>) -> Result<Command<'a>, LineFault<'a>>
-    ensures answer { IfOk result (λ command. entry_in command ≡ Nothing) }
+    ensures answer { NoEntry result }
 {
     let side = words.side()?;
     let price = words.figure("PRICE")?;
@@ -132,7 +146,7 @@ fn take<'a>(words: &mut Words<'a>) -> Result<Command<'a>, LineFault<'a>>
 }
 
 fn open<'a>(words: &mut Words<'a>) -> Result<Command<'a>, LineFault<'a>>
-    ensures answer { IfOk result (λ command. entry_in command ≡ Nothing) }
+    ensures answer { NoEntry result }
 {
     let time = words.figure("TIME")?;
     let params = words.params()?;
@@ -140,30 +154,23 @@ fn open<'a>(words: &mut Words<'a>) -> Result<Command<'a>, LineFault<'a>>
 }
 
 fn limits<'a>(words: &mut Words<'a>) -> Result<Command<'a>, LineFault<'a>>
-    ensures answer { IfOk result (λ command. entry_in command ≡ Nothing) }
+    ensures answer { NoEntry result }
 {
-    let fixed = words.is_first("static", "dynamic")?;
+    let which = words.choice(("static", LimitKind::Static), ("dynamic", LimitKind::Dynamic))?;
     let time = words.figure("TIME")?;
-    let which = if fixed {
-        LimitKind::Static
-    } else {
-        LimitKind::Dynamic
-    };
     Ok(Command::Limits { which, time })
 }
 
 fn levels<'a>(words: &mut Words<'a>) -> Result<Command<'a>, LineFault<'a>>
-    ensures answer { IfOk result (λ command. entry_in command ≡ Nothing) }
+    ensures answer { NoEntry result }
 {
     let side = words.side()?;
     Ok(Command::Levels { side })
 }
 
 fn feed<'a>(words: &mut Words<'a>) -> Result<Command<'a>, LineFault<'a>>
-    ensures answer { IfOk result (λ command. entry_in command ≡ Nothing) }
+    ensures answer { NoEntry result }
 {
-    match words.next() {
-        Some(file) => Ok(Command::Feed { file }),
-        None => Err(LineFault::Missing { name: "FILE" }),
-    }
+    let file = words.next().ok_or(LineFault::Missing { name: "FILE" })?;
+    Ok(Command::Feed { file })
 }
