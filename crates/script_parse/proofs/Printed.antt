@@ -1,5 +1,5 @@
 -- A printed entry is read as the same entry.
-use Rattle.std.proofs.Common.{◌≡◌, ℕ, ◌-◌, ◌^◌, ◌<◌, ◌≤◌, true, cond, List, [], ◌∷◌, map, length, Some, None, Ok, Err, decimal, Option, Result, refl, ap, ◌∙◌, arith, le-leb}
+use Rattle.std.proofs.Common.{◌≡◌, ℕ, ◌-◌, ◌^◌, ◌<◌, ◌≤◌, true, cond, List, [], ◌∷◌, map, length, Some, None, Ok, Err, decimal, Option, Result, refl, ap, ◌∙◌, arith, rules, le-leb}
 use Rattle.std.proofs.lemmas.Fmt.{digits_decimal, digits_value-decimal, decimal_nonempty}
 use Rattle.entry.specs.declared.Entry.{Entry}
 use Rattle.entry.specs.declared.Entry.TheVariants as made
@@ -20,8 +20,7 @@ use Rattle.script_parse.proofs.Solid.{is_word, solid, digits_solid, AllWords, un
 number_decimal : (n : ℕ) → n < 2 ^ 32 → number (decimal n) ≡ Some n
 number_decimal n h =
     let wide : n < 2 ^ 64 = omega arith in
-    let same = digits_value-decimal own n wide in
-    number_of (decimal n) (digits_decimal own n wide, decimal_nonempty n wide, omega (arith, same)) ∙ ap (λ v. Some v) same
+    grind (arith, number_of, digits_value-decimal own n wide, digits_decimal own n wide, decimal_nonempty n wide)
 
 figure_to_decimal : (most n : ℕ) (ws : List Bytes) → n < 2 ^ 32 → n ≤ most → figure_to most (decimal n ∷ ws) ≡ Some (n, ws)
 figure_to_decimal most n ws h k =
@@ -64,13 +63,13 @@ parts_words (figure n ∷ parts) fits named = (decimal_word n fits.0, parts_word
 parts_words (code n ∷ parts) fits named = (decimal_word n (omega (arith, fits.0)), parts_words parts fits.1 named)
 
 entry_named : (e : Entry) → Named (entry_parts e)
-entry_named (made.Clock time) = (refl, tt)
-entry_named (made.Post time side mode price) = (refl, (side_is_word side, tt))
-entry_named (made.Leave time side price) = (refl, (side_is_word side, tt))
-entry_named (made.Trade time mode price quantity) = (refl, tt)
-entry_named (made.Parameters time params) = (refl, tt)
-entry_named (made.Reference time session price) = (refl, tt)
-entry_named (made.Ruling time price) = (refl, tt)
+entry_named (made.Clock time) = search rules
+entry_named (made.Post time side mode price) = search (rules, side_is_word)
+entry_named (made.Leave time side price) = search (rules, side_is_word)
+entry_named (made.Trade time mode price quantity) = search rules
+entry_named (made.Parameters time params) = search rules
+entry_named (made.Reference time session price) = search rules
+entry_named (made.Ruling time price) = search rules
 
 words_read : (e : Entry) → Fits e → entry_of_words (map part_text (entry_parts e)) ≡ Some e
 words_read (made.Clock time) h = grind (arith, figure_decimal)
