@@ -5,7 +5,6 @@ use Rattle.std.proofs.lemmas.Slice.Eq.{bytes_eq-Decides, slice_eq-Decides}
 use Rattle.std.specs.Bool.{Decides}
 use Rattle.std.specs.Str.{bytes_eq}
 use Rattle.script.specs.Spelling.{Bytes}
-use Rattle.script_words.proofs.Cuts.{other_not}
 
 -- what a comparison that was made says of the two words
 pub compared : (v w : Bytes) (r : Bool) → r ≡ bytes_eq v w → Decides r (v ≡ w)
@@ -19,4 +18,4 @@ pub same : {v w : Bytes} → v ≡ w → bytes_eq v w ≡ true
 same {v} {w} e = (bytes_eq-Decides v w).1 e
 
 pub differs : {v w : Bytes} → (v ≡ w → ⊥) → bytes_eq v w ≡ false
-differs {v} {w} h = other_not _ (λ e. h ((bytes_eq-Decides v w).0 e))
+differs {v} {w} h = grind (arith, bytes_eq-Decides v w)

@@ -21,27 +21,27 @@ fn is_blank(byte: u8) -> bool
     byte == b' ' || byte == b'\t' || byte == b'\r'
 }
 
-/// Where the first blank of a text stands.
-fn first_blank(bytes: &[u8]) -> Option<usize>
-    ensures answer { result ≡ position is_blank bytes.now }
+/// Where the first word of a text starts, if there is one.
+fn word_start(text: &str) -> Option<usize>
+    ensures answer { result ≡ position (λ byte. not (is_blank byte)) text.now }
 {
-    bytes.iter().position(|byte| is_blank(*byte))
+    text.bytes().position(|byte| !is_blank(byte))
 }
 
-/// Where the first byte of a text stands that is no blank.
-fn first_solid(bytes: &[u8]) -> Option<usize>
-    ensures answer { result ≡ position (λ byte. not (is_blank byte)) bytes.now }
+/// Where the first blank of a text stands, if there is one.
+fn first_blank(text: &str) -> Option<usize>
+    ensures answer { result ≡ position is_blank text.now }
 {
-    bytes.iter().position(|byte| !is_blank(*byte))
+    text.bytes().position(is_blank)
 }
 
 /// The first word of a text and what follows it, if there is a word.
 fn first_word(text: &str) -> Option<(&str, &str)>
     ensures answer { MatchOption result (words_of text.now ≡ []) (λ cut. words_of text.now ≡ cut.0.now ∷ words_of cut.1.now) }
 {
-    let (_, from) = text.split_at(first_solid(text.as_bytes())?);
-    let end = first_blank(from.as_bytes()).unwrap_or(from.len());
-    Some(from.split_at(end))
+    let (_, word) = text.split_at(word_start(text)?);
+    let end = first_blank(word).unwrap_or(word.len());
+    Some(word.split_at(end))
 }
 
 /// The number that a word of decimal digits writes, if it fits.
