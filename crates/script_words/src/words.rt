@@ -86,7 +86,7 @@ impl<'a> Words<'a> {
     pub fn code(&mut self, name: &'static str) -> Result<u8, LineFault<'a>>
         ensures answer { answered result (left self.new) ≡ code_of (left self.old) }
     {
-        let figure = self.figure_to(name, 255)?;
+        let figure = self.figure_to(name, u32::from(u8::MAX))?;
         Ok(figure as u8)
     }
 
