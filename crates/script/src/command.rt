@@ -16,59 +16,33 @@ pub enum LimitKind {
 #[derive(Clone, Copy, PartialEq, Eq, Debug)]
 pub enum Command<'a> {
     /// The plan of fixed hours for so many days and a group of securities.
-    FixedPlan {
-        days: u32,
-        group: u32,
-    },
+    FixedPlan { days: u32, group: u32 },
     /// A plan of announced windows, with none yet.
     AnnouncedPlan,
     /// A window for the announced plan.
     Window(Announcement),
     /// Asks for the session at a time.
-    Session {
-        time: u32,
-    },
+    Session { time: u32 },
     /// A board for so many levels on each side.
-    Ladder {
-        count: u32,
-    },
+    Ladder { count: u32 },
     /// A board for every price from a start.
-    Grid {
-        start: u32,
-    },
+    Grid { start: u32 },
     /// An order is put on the board itself.
-    Add {
-        side: Side,
-        price: u32,
-        time: u32,
-    },
+    Add { side: Side, price: u32, time: u32 },
     /// An order is taken off the board itself.
-    Take {
-        side: Side,
-        price: u32,
-    },
+    Take { side: Side, price: u32 },
     /// A newly listed security.
     Listed,
     /// The day is opened.
-    Open {
-        time: u32,
-        params: Params,
-    },
+    Open { time: u32, params: Params },
     /// An entry for the open day.
     Entry(Entry),
     /// Asks for limits at a time.
-    Limits {
-        which: LimitKind,
-        time: u32,
-    },
+    Limits { which: LimitKind, time: u32 },
     /// Asks for the levels of a side.
-    Levels {
-        side: Side,
-    },
+    Levels { side: Side },
     /// The entries of a feed, as one run.
-    Feed {
-        file: &'a str,
-    },
+    Feed { file: &'a str },
     /// The day is closed.
     Close,
 }

@@ -108,13 +108,15 @@ impl fmt::Display for Command<'_> {
         match *self {
             Command::FixedPlan { days, group } => write!(f, "plan fixed {days} {group}"),
             Command::AnnouncedPlan => write!(f, "plan announced"),
-            Command::Window(Announcement {
-                start,
-                end,
-                session,
-                bounding,
-                k,
-            }) => write!(f, "window {start} {end} {session} {} {k}", Plain(bounding)),
+            Command::Window(
+                Announcement {
+                    start,
+                    end,
+                    session,
+                    bounding,
+                    k,
+                },
+            ) => write!(f, "window {start} {end} {session} {} {k}", Plain(bounding)),
             Command::Session { time } => write!(f, "session {time}"),
             Command::Ladder { count } => write!(f, "board ladder {count}"),
             Command::Grid { start } => write!(f, "board grid {start}"),

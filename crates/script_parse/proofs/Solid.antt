@@ -1,11 +1,11 @@
 -- Words with single blanks between are read as the same words.
-use Rattle.std.proofs.Common.{◌≡◌, ℕ, Bool, true, false, cond, not, ◌&&◌, ◌||◌, eqb, List, [], ◌∷◌, ◌++◌, map, sym, refl, ap, ◌∙◌, append-nil, arith}
+use Rattle.std.proofs.Common.{◌≡◌, ℕ, Bool, true, false, not, ◌&&◌, ◌||◌, eqb, List, [], ◌∷◌, ◌++◌, map, refl, append-nil, arith}
 use Rattle.std.proofs.lemmas.Bool.Decides.{nat_tests}
 use Rattle.std.specs.Char.{is_ascii_digit}
 use Rattle.std.specs.Str.{all_ascii_digits}
 use Rattle.script.specs.Spelling.{Bytes, Part}
 use Rattle.script.specs.Print.{part_text, spaced}
-use Rattle.script_words.specs.Words.{is_blank, uncommented, goes_on, onto, words_of}
+use Rattle.script_words.specs.Words.{is_blank, uncommented, goes_on, words_of}
 
 -- neither a blank nor the start of a comment
 abbrev pub is_solid : ℕ → Bool

@@ -156,7 +156,10 @@ fn open<'a>(words: &mut Words<'a>) -> Result<Command<'a>, LineFault<'a>>
 fn limits<'a>(words: &mut Words<'a>) -> Result<Command<'a>, LineFault<'a>>
     ensures answer { NoEntry result }
 {
-    let which = words.choice(("static", LimitKind::Static), ("dynamic", LimitKind::Dynamic))?;
+    let which = words.choice(
+        ("static", LimitKind::Static),
+        ("dynamic", LimitKind::Dynamic),
+    )?;
     let time = words.figure("TIME")?;
     Ok(Command::Limits { which, time })
 }

@@ -100,7 +100,9 @@ impl<'a> Words<'a> {
     {
         let (first, if_first) = first;
         let (second, if_second) = second;
-        let word = self.next().ok_or(LineFault::MissingChoice { first, second })?;
+        let word = self
+            .next()
+            .ok_or(LineFault::MissingChoice { first, second })?;
         if word == first {
             Ok(if_first)
         } else if word == second {

@@ -1,7 +1,6 @@
 -- A cut beside a blank falls between characters, and what stands between two cuts is the first word.
-use Rattle.std.proofs.Common.{◌≡◌, Some, None, ap, ◌∙◌, sym, subst}
+use Rattle.std.proofs.Common.{◌≡◌, Some, ◌∙◌, sym}
 use Rattle.std.specs.List.{position, position_or_len}
-use Rattle.std.specs.Str.{IsCharBoundary}
 use Rattle.script_words.specs.Words.{is_blank}
 use Rattle.script_words.proofs.Cuts.{not_blank, boundary_start, boundary_end, place_or_length, first_cut, no_words}
 use Rattle.script_words.proofs.words.first_word.Goals as goal
