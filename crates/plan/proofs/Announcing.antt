@@ -1,21 +1,18 @@
 -- What an announced plan's calls find on the shelf, and what they leave there.
-use Rattle.std.proofs.Common.{◌≡◌, ℕ, suc, ◌<◌, Bool, true, false, cond, ltb, List, length, Some, None, Ok, Err, Option, Result, sym, refl, ap, ◌∙◌, arith}
+use Rattle.std.proofs.Common.{◌≡◌, ℕ, suc, ◌<◌, Bool, true, false, cond, ltb, List, length, None, Ok, Err, Result, sym, refl, ap, ◌∙◌, arith}
 use Rattle.std.proofs.lemmas.Bool.{cond-false}
-use Rattle.std.proofs.lemmas.Bool.Decides.{nat_tests}
 use Rattle.std.specs.List.{slice_get}
 use Rattle.entry.specs.declared.refusals.Refusal.{Refusal}
 use Rattle.entry.specs.declared.refusals.Refusal.TheVariants.{TooManyWindows}
-use Rattle.entry.specs.declared.windows.Announcement.{Announcement}
 use Rattle.shelf.specs.declared.ShelfFault.{ShelfFault}
 use Rattle.shelf.specs.declared.ShelfFault.TheVariants.{NoRoom}
 use Rattle.shelf.specs.Order.{ascends, sought, placed}
 use Rattle.shelf.specs.Calls.{on_ok, insert_answer, insert_live}
 use Rattle.shelf.proofs.Order.{sought_ok, sought_err}
-use Rattle.plan.specs.declared.slots.Session.{Session}
 use Rattle.plan.specs.declared.slots.Window.{Window}
 use Rattle.plan.specs.Hours.{in_order}
 use Rattle.plan.specs.Windows.{most_windows, start_of, earlier, last_by, overlaps_any}
-use Rattle.plan.specs.Announced.{window_in, add_answer, add_after}
+use Rattle.plan.specs.Announced.{add_answer, add_after}
 use Rattle.plan.proofs.Apart.{before_at, last_at, last_before, start_free, order_placed}
 
 -- the search for a time finds the last window that starts at or before it
@@ -32,11 +29,6 @@ module _ (t : ℕ) (ws : List Window) (at : ℕ) where
 
 pub found_before : (t : ℕ) (ws : List Window) (at i : ℕ) → Err at ≡ sought start_of earlier t ws → at ≡ suc i → slice_get ws i ≡ last_by t ws
 found_before t ws at i e s = ap (before_at None ws) (sym s) ∙ before t ws at e
-
--- a window in range starts before its end
-pub in-range : (a : Announcement) (session : Option Session) (w : Window) → Ok w ≡ window_in a session → w.start < w.end
-in-range a None w e = absurd (let z : ◌≡◌ {A = ℕ} 0 1 = cc in omega arith)
-in-range a (Some session) w e = grind (arith, nat_tests)
 
 -- a shelf's answer in the plan's words: the plan asks only for starts that do not stand, so that a refusal is for want of room
 abbrev pub told_as : Result (Unit {0}) ShelfFault → Result (Unit {0}) Refusal

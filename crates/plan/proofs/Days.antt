@@ -1,5 +1,5 @@
 -- The windows of the fixed plan: sound by the table, and what they give at a time of a calendar day.
-use Rattle.std.proofs.Common.{◌≡◌, ℕ, zero, suc, ◌+◌, ◌*◌, ◌/◌, ◌%◌, ◌<◌, ◌≤◌, Bool, true, false, cond, ◌&&◌, eqb, ltb, leb, List, [], ◌∷◌, Some, Option, refl, ap, ◌∙◌, arith}
+use Rattle.std.proofs.Common.{◌≡◌, ℕ, zero, suc, ◌+◌, ◌*◌, ◌/◌, ◌%◌, ◌<◌, ◌≤◌, Bool, true, false, cond, ◌&&◌, eqb, ltb, leb, List, [], ◌∷◌, refl, ap, ◌∙◌, arith}
 use Rattle.std.proofs.lemmas.Bool.Decides.{nat_tests}
 use Rattle.plan.specs.declared.slots.Slot.TheVariants.{NoSession}
 use Rattle.plan.specs.declared.slots.Window.{Window}
@@ -7,7 +7,7 @@ use Rattle.plan.specs.declared.fixed.Group.{Group}
 use Rattle.plan.specs.declared.fixed.Row.{Row}
 use Rattle.plan.specs.declared.fixed.FixedPlan.{FixedPlan}
 use Rattle.plan.specs.Hours.{contains, slot_at, in_order}
-use Rattle.plan.specs.Fixed.{day, table, of_day, row_slot, slot_there, window_on, on_day, from_day, fixed_hours, rows_at}
+use Rattle.plan.specs.Fixed.{day, table, of_day, window_on, on_day, from_day, fixed_hours, rows_at}
 use Rattle.plan.proofs.Order.{order_earlier}
 
 -- the rows of the last calendar day, or of an earlier one, are in order, do not overlap and lie within a day
@@ -26,10 +26,6 @@ within-day last from (r ∷ rs) h =
     let taken : rows_in_order last r.end rs ≡ true → r.end ≤ day = λ e. within-day last r.end rs e in
     let passed : rows_in_order last from rs ≡ true → from ≤ day = λ e. within-day last from rs e in
     grind (arith, nat_tests)
-
-slot_either : (b : Bool) (group : Group) (r : Row) (o : Option Row) → slot_there group (cond b (Some r) o) ≡ cond b (row_slot group r) (slot_there group o)
-slot_either true group r o = refl
-slot_either false group r o = refl
 
 module _ (last : Bool) (d : ℕ) (group : Group) where
   order-day : (from : ℕ) (rs : List Row) (later : List Window) → rows_in_order last from rs ≡ true → in_order (suc d * day) later ≡ true → in_order (d * day + from) (on_day last d group rs later) ≡ true

@@ -92,5 +92,6 @@ plan_for days None = Err OutOfRange
 plan_for days (Some group) =
     cond (nat_le 1 days && nat_le days 10) (Ok (record { earlier = days - 1; group = group })) (Err OutOfRange)
 
+-- the plan of so many calendar days for the group with a code
 abbrev pub fixed_answer : ℕ → ℕ → Result FixedPlan Refusal
 fixed_answer days group = plan_for days (group_from group)
