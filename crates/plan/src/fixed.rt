@@ -122,7 +122,8 @@ pub struct FixedPlan {
 }
 
 impl FixedPlan {
-    /// The plan of a trading day of 1 to 10 calendar days, for group 0, quoted, or 1, unquoted.
+    /// The plan of a trading day of 1 to 10 calendar days, for group 0, quoted, or 1, unquoted. The figures are raw, and are judged
+    /// here.
     pub fn new(days: u32, group: u32) -> Result<FixedPlan, Refusal>
         ensures answer { result ≡ fixed_answer days group }
     {
