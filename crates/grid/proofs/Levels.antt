@@ -90,17 +90,17 @@ room-left s start k zero (c ∷ cs) m w = let f = fewer s start (suc k) cs in gr
 room-left s start k (suc j) (c ∷ cs) m w = let ih = room-left s start (suc k) j cs (omega arith) w in grind (arith, nat_tests)
 
 -- the first cell that stands is the best level
-pub best_rank : (s : Side) (start k i : ℕ) (cs : List Cell) → first_of k cs ≡ Some i → (j : ℕ) × (i ≡ k + j) × (j < length cs) × (first (levels s start k cs) ≡ Some (level_in (price_at s start i) (cell_at cs j)))
+pub best_rank : (s : Side) (start k i : ℕ) (cs : List Cell) → first_of k cs ≡ Some i → (j : ℕ) × (i ≡ k + j) × (first (levels s start k cs) ≡ seen (price_at s start i) (cell_at cs j))
 best_rank s start k i [] e = absurd (let z : ◌≡◌ {A = ℕ} 0 1 = cc in omega arith)
 best_rank s start k i (c ∷ cs) e =
     elim (cases_Bool (eqb c.orders 0)) [
       | inl t ↦
           let e' : first_of (suc k) cs ≡ Some i = grind (arith, nat_tests) in
           let ih = best_rank s start (suc k) i cs e' in
-          (suc ih.0, omega arith, omega arith, (let r = ih.3 in grind (arith, nat_tests)))
+          (suc ih.0, omega arith, (let r = ih.2 in grind (arith, nat_tests)))
       | inr f ↦
           let e' : k ≡ i = grind (arith, nat_tests) in
-          (0, omega arith, omega arith, grind (arith, nat_tests))
+          (0, omega arith, grind (arith, nat_tests))
     ]
 
 pub best_none : (s : Side) (start k : ℕ) (cs : List Cell) → first_of k cs ≡ None → first (levels s start k cs) ≡ None

@@ -21,60 +21,53 @@ impl SideCells {
         ensures { result.cells ≡ replicate 256 no_order }
     {
         SideCells {
-            cells: [Cell {
-                orders: 0,
-                since: 0,
-            }; 256],
+            cells: [Cell::default(); 256],
             marks: [0; 4],
         }
     }
 
     // The cell at a rank.
-    pub fn get(&self, rank: usize) -> Cell
-        requires { rank < 256 }
+    pub fn get(&self, rank: u8) -> Cell
         ensures { result ≡ cell_at self.now.cells rank }
     {
-        self.cells[rank]
+        self.cells[usize::from(rank)]
     }
 
     // Stores a cell at a rank, and marks whether it holds a level.
-    pub fn put(&mut self, rank: usize, cell: Cell)
-        requires { rank < 256 }
+    pub fn put(&mut self, rank: u8, cell: Cell)
         ensures { self.new.cells ≡ slice_set self.old.cells rank cell }
     {
-        let stood = self.cells[rank].orders > 0;
-        let stands = cell.orders > 0;
+        let rank = usize::from(rank);
+        let was_empty = self.cells[rank].is_empty();
         self.cells[rank] = cell;
-        if stood != stands {
+        if cell.is_empty() != was_empty {
             self.marks[rank / 64] ^= 1 << (63 - rank % 64);
         }
     }
 
     // The first rank, from a word of marks on, whose cell holds a level.
-    fn first_from_word(&self, from: usize) -> Option<usize>
+    fn first_from_word(&self, from: usize) -> Option<u8>
         requires { from ≤ 4 }
         ensures { result ≡ first_of (64 * from) (drop (64 * from) self.now.cells) }
     {
         for w in from..4 {
             let word = self.marks[w];
             if word != 0 {
-                return Some(64 * w + word.leading_zeros() as usize);
+                return Some((64 * w + word.leading_zeros() as usize) as u8);
             }
         }
         None
     }
 
     // The first rank, from a rank on, whose cell holds a level.
-    pub fn first_from(&self, from: usize) -> Option<usize>
+    pub fn first_from(&self, from: u8) -> Option<u8>
         ensures { result ≡ first_of from (drop from self.now.cells) }
     {
-        if from >= 256 {
-            return None;
-        }
+        let from = usize::from(from);
         let w = from / 64;
         let rest = self.marks[w] & (u64::MAX >> (from % 64));
         if rest != 0 {
-            return Some(64 * w + rest.leading_zeros() as usize);
+            return Some((64 * w + rest.leading_zeros() as usize) as u8);
         }
         self.first_from_word(w + 1)
     }

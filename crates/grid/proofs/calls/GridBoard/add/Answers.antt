@@ -1,32 +1,33 @@
--- No place outside the range, a full level, and the cell stored.
-use Rattle.std.proofs.Common.{leb, sym, refl, ap, ◌∙◌}
-use Rattle.std.proofs.lemmas.Bool.{leb-false}
-use Rattle.grid.specs.declared.cells.Cell.{Cell}
-use Rattle.grid.specs.Ranks.{book_over, more}
-use Rattle.grid.proofs.Answered.{off, spot, add_off, add_full, add_stored}
+-- No place outside the range, what the cell answers inside it, and the cell stored.
+use Rattle.std.proofs.Common.{◌≡◌, None, Some, Ok, Err, Option, Result, refl, arith}
+use Rattle.std.proofs.lemmas.Result.{err_from_is_err_and}
+use Rattle.board.specs.declared.faults.BoardFault.TheVariants.{NoPlace}
+use Rattle.grid.specs.Ranks.{cell_at, more_answer}
+use Rattle.grid.specs.Holding.{grid_book, cells_of}
+use Rattle.grid.proofs.Answered.{Spot, add_off, add_refused, add_stored}
 use Rattle.grid.proofs.calls.GridBoard.add.Goals as goal
 
-pub returns-in_default : goal.returns-in_default
-returns-in_default c =
-    let g = c.args.self.now in
-    let d = add_off c.args.time (off c.args.side g.start c.args.price g.buys.cells g.sells.cells g.buys.size g.sells.size c.in_default.ensures) in
-    record { answer = d.answer; after = d.after; lent = refl }
+pub returns-in_err-rank : goal.returns-in_err-rank
+returns-in_err-rank c =
+    let e : c.rank.result ≡ None = grind arith in
+    let f : c.in_err-rank.field-0.0 ≡ NoPlace = grind arith in
+    let p = err_from_is_err_and c.from_residual.result c.from_residual.ensures.1 in
+    let d = add_off c.args.side c.args.self.now c.args.price c.args.time (rw e at c.rank.ensures) in
+    record { answer = cc (d.answer); after = d.after; lent = refl }
 
-pub returns-then-is_full : goal.returns-then-is_full
-returns-then-is_full c =
-    let g = c.args.self.now in
-    let o = spot c.args.side g.start c.args.price c.in-Some.rank g.buys.cells g.sells.cells g.buys.size g.sells.size c.in-Some.ensures in
-    let d = add_full c.args.time o (sym (ap (λ (x : Cell). leb 65535 x.orders) c.get-cell.ensures) ∙ sym c.if-is_full.ensures) in
-    record { answer = d.answer; after = d.after; lent = refl }
-
-pub one_more-requires : goal.one_more-requires
-one_more-requires c = leb-false 65535 c.get-cell.result.orders (sym c.if-is_full.ensures)
+pub returns-in_err-cell : goal.returns-in_err-cell
+returns-in_err-cell c =
+    let e : c.rank.result ≡ Some c.in_ok-rank.rank = grind arith in
+    let o : Spot c.args.side c.args.self.now c.args.price c.in_ok-rank.rank = record { low = omega arith; here = rw e at c.rank.ensures } in
+    let p = err_from_is_err_and c.from_residual-in_err-cell.result c.from_residual-in_err-cell.ensures.1 in
+    let w : more_answer c.args.time (cell_at (cells_of c.args.side c.args.self.now) c.in_ok-rank.rank) ≡ Err c.in_err-cell.field-0.0 = cc (c.in_err-cell.was) in
+    let d = add_refused c.args.time o w in
+    record { answer = cc (d.answer); after = d.after; lent = refl }
 
 pub returns : goal.returns
 returns c =
-    let g = c.args.self.now in
-    let l = c.put.new.self in
-    let o = spot c.args.side g.start c.args.price c.in-Some.rank g.buys.cells g.sells.cells g.buys.size g.sells.size c.in-Some.ensures in
-    let w = sym (ap (λ (x : Cell). leb 65535 x.orders) c.get-cell.ensures) ∙ sym c.if-is_full.ensures in
-    let d = add_stored c.args.time c.one_more.result (book_over l.start l.buys.cells l.sells.cells) o w (c.one_more.ensures ∙ ap (more c.args.time) c.get-cell.ensures) c.put.ensures in
+    let e : c.rank.result ≡ Some c.in_ok-rank.rank = grind arith in
+    let o : Spot c.args.side c.args.self.now c.args.price c.in_ok-rank.rank = record { low = omega arith; here = rw e at c.rank.ensures } in
+    let w : more_answer c.args.time (cell_at (cells_of c.args.side c.args.self.now) c.in_ok-rank.rank) ≡ Ok c.in_ok-cell.cell = cc (c.in_ok-cell.was) in
+    let d = add_stored c.args.time c.in_ok-cell.cell (grid_book c.put.new.self) o w c.put.ensures in
     record { answer = d.answer; after = d.after; lent = refl }
