@@ -8,7 +8,7 @@ use Rattle.board.specs.Levels.{new_level}
 use Rattle.board.specs.Book.{first, better, level_at, next_after}
 use Rattle.board.specs.Calls.{added, taken}
 use Rattle.grid.specs.declared.cells.Cell.{Cell}
-use Rattle.grid.specs.Ranks.{cell_at, price_at, ranks_to, level_in, seen, levels, more, less, first_of}
+use Rattle.grid.specs.Ranks.{cell_at, price_at, ranks_to, seen, levels, more, less, first_of}
 
 -- prices compare as their ranks do
 pub better_rank : (s : Side) (start i j : ℕ) → i < 256 → j < 256 → better s (price_at s start i) (price_at s start j) ≡ ltb i j

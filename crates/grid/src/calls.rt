@@ -24,7 +24,7 @@ impl Grid {
     pub fn test(start: u32) -> Result<(), Refusal>
         ensures answer { result ≡ start_answer start }
     {
-        if start >= FIRST_START && start <= LAST_START {
+        if (FIRST_START..=LAST_START).contains(&start) {
             Ok(())
         } else {
             Err(Refusal::OutOfRange)

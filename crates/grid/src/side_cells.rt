@@ -1,5 +1,5 @@
 // One side of the grid: a cell for each rank, best first, and a bit for each cell that says whether it holds a level.
-ghost use Rattle.std.specs.Prelude.{◌≡◌, ◌*◌, ◌<◌, ◌≤◌, length, drop, replicate, slice_set};
+ghost use Rattle.std.specs.Prelude.{◌≡◌, ◌*◌, ◌≤◌, ◌==◌, not, length, drop, position, replicate, slice_set};
 ghost use Rattle.grid.specs.Ranks.{no_order, cell_at, first_of, Marks, Limited};
 
 use crate::cells::Cell;
@@ -13,6 +13,13 @@ pub struct SideCells {
     ghost words: { length marks ≡ 4 },
     ghost limited: { Limited cells },
     ghost marked: { Marks marks cells },
+}
+
+// The first word with a mark.
+fn first_marked(words: &[u64]) -> Option<usize>
+    ensures { result ≡ position (λ w. not (w == 0)) words.now }
+{
+    words.iter().position(|word| *word != 0)
 }
 
 impl SideCells {
@@ -50,13 +57,8 @@ impl SideCells {
         requires { from ≤ 4 }
         ensures { result ≡ first_of (64 * from) (drop (64 * from) self.now.cells) }
     {
-        for w in from..4 {
-            let word = self.marks[w];
-            if word != 0 {
-                return Some((64 * w + word.leading_zeros() as usize) as u8);
-            }
-        }
-        None
+        let w = from + first_marked(&self.marks[from..])?;
+        Some((64 * w + self.marks[w].leading_zeros() as usize) as u8)
     }
 
     // The first rank, from a rank on, whose cell holds a level.

@@ -1,5 +1,5 @@
 -- The first rank with a level has the best one.
-use Rattle.std.proofs.Common.{◌≡◌, None, Some, drop, arith}
+use Rattle.std.proofs.Common.{◌≡◌, None, Some, drop}
 use Rattle.grid.specs.Ranks.{first_of}
 use Rattle.grid.specs.Holding.{cells_of}
 use Rattle.grid.proofs.Answered.{first_is, first-none}

@@ -1,5 +1,5 @@
 -- No rank has the price, or its cell tells the level.
-use Rattle.std.proofs.Common.{◌≡◌, None, Some, ap, sym, ◌∙◌, arith}
+use Rattle.std.proofs.Common.{ap, sym, ◌∙◌, arith}
 use Rattle.grid.specs.Ranks.{seen}
 use Rattle.grid.proofs.Answered.{Spot, at_off, at_spot}
 use Rattle.grid.proofs.calls.GridBoard.at.Goals as goal

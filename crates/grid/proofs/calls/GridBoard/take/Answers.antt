@@ -1,5 +1,5 @@
 -- Nothing there outside the range, what the cell answers inside it, and the cell stored.
-use Rattle.std.proofs.Common.{◌≡◌, None, Some, Ok, Err, Option, Result, refl, arith}
+use Rattle.std.proofs.Common.{◌≡◌, None, Some, Ok, Err, refl, arith}
 use Rattle.std.proofs.lemmas.Result.{err_from_is_err_and}
 use Rattle.board.specs.declared.faults.BoardFault.TheVariants.{NothingThere}
 use Rattle.grid.specs.Ranks.{cell_at, less_answer}

@@ -1,7 +1,6 @@
 -- The rest of the word of the first rank, and then the words past it.
 use Rattle.std.proofs.Common.{arith}
 use Rattle.std.proofs.lemmas.Bool.Decides.{nat_tests}
-use Rattle.grid.specs.Ranks.{first_of}
 use Rattle.grid.proofs.Words.{rest_marks, first_rest}
 use Rattle.grid.proofs.side_cells.SideCells.first_from.Goals as goal
 
