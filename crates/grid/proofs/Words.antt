@@ -199,30 +199,20 @@ first_in_words (m ∷ ms) k cs h n =
     let ih = first_in_words ms (k + 64) (drop 64 cs) g (omega (arith, length-drop 64 cs)) in
     grind (arith, nat_tests)
 
-first_past : (ms : List ℕ) (cs : List Cell) (from : ℕ) → Marks ms cs → length ms ≡ 4 → length cs ≡ 256 → from ≤ 4 → first_of (64 * from) (drop (64 * from) cs) ≡ cond (ltb (first_mark (drop from ms)) (length (drop from ms))) (Some (64 * (from + first_mark (drop from ms)) + count_leading_zeros 64 (get_or ms (from + first_mark (drop from ms)) 0))) None
+-- the rank that a word past the first ones has, where the j-th of the others is the first with a mark
+abbrev pub rank_past : List ℕ → ℕ → Option ℕ → Option ℕ
+rank_past ms from None = None
+rank_past ms from (Some j) = Some (64 * (from + j) + count_leading_zeros 64 (get_or ms (from + j) 0))
+
+pub first_past : (ms : List ℕ) (cs : List Cell) (from : ℕ) → Marks ms cs → length ms ≡ 4 → length cs ≡ 256 → from ≤ 4 → first_of (64 * from) (drop (64 * from) cs) ≡ rank_past ms from (position (λ m. not (eqb m 0)) (take (4 - from) (drop from ms)))
 first_past ms cs from h m n l =
     let d = length-drop from ms in
     let g : (w : ℕ) → w < length (drop from ms) → get_or (drop from ms) w 0 ≡ word 64 (drop (64 * w) (drop (64 * from) cs)) = λ w b. get_or-drop from ms w 0 ∙ (h (from + w) (omega arith) ∙ sym (ap (word 64) (drop-drop (64 * w) (64 * from) cs ∙ ap (λ (y : ℕ). drop y cs) (omega arith)))) in
     let f = first_in_words (drop from ms) (64 * from) (drop (64 * from) cs) g (omega (arith, length-drop (64 * from) cs)) in
     let e = get_or-drop from ms (first_mark (drop from ms)) 0 in
-    grind (arith, nat_tests)
-
-position_past : (ms : List ℕ) (from : ℕ) → length ms ≡ 4 → position (λ m. not (eqb m 0)) (take (4 - from) (drop from ms)) ≡ cond (ltb (first_mark (drop from ms)) (length (drop from ms))) (Some (first_mark (drop from ms))) None
-position_past ms from m =
-    let d = length-drop from ms in
-    ap (position (λ m. not (eqb m 0))) (take_all (4 - from) (drop from ms) (omega arith))
-
-pub past_none : (ms : List ℕ) (cs : List Cell) (from : ℕ) → Marks ms cs → length ms ≡ 4 → length cs ≡ 256 → from ≤ 4 → position (λ m. not (eqb m 0)) (take (4 - from) (drop from ms)) ≡ None → first_of (64 * from) (drop (64 * from) cs) ≡ None
-past_none ms cs from h m n l q =
-    let p = position_past ms from m in
-    let f = first_past ms cs from h m n l in
-    grind (arith, nat_tests)
-
-pub past_some : (ms : List ℕ) (cs : List Cell) (from j : ℕ) → Marks ms cs → length ms ≡ 4 → length cs ≡ 256 → from ≤ 4 → position (λ m. not (eqb m 0)) (take (4 - from) (drop from ms)) ≡ Some j → first_of (64 * from) (drop (64 * from) cs) ≡ Some (64 * (from + j) + count_leading_zeros 64 (get_or ms (from + j) 0))
-past_some ms cs from j h m n l q =
-    let p = position_past ms from m in
-    let f = first_past ms cs from h m n l in
-    grind (arith, nat_tests)
+    let t = ap (position (λ m. not (eqb m 0))) (take_all (4 - from) (drop from ms) (omega arith)) in
+    let q : first_of (64 * from) (drop (64 * from) cs) ≡ rank_past ms from (position (λ m. not (eqb m 0)) (drop from ms)) = grind (arith, nat_tests) in
+    q ∙ sym (ap (rank_past ms from) t)
 
 pub first_below : (k i : ℕ) (cs : List Cell) → first_of k cs ≡ Some i → i < k + length cs
 first_below k i [] e = absurd (let z : ◌≡◌ {A = ℕ} 0 1 = cc in omega arith)
