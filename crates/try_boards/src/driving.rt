@@ -61,22 +61,12 @@ pub(crate) fn same_answers<A: Board, B: Board>(
 
 /// Adds a level at each of so many prices. Whether each was taken.
 pub(crate) fn fill<B: Board>(board: &mut B, side: Side, start: u32, levels: u32) -> bool {
-    for i in 0..levels {
-        if board.add(side, start.saturating_add(i), i) != Ok(()) {
-            return false;
-        }
-    }
-    true
+    (0..levels).all(|i| board.add(side, start.saturating_add(i), i) == Ok(()))
 }
 
 /// Adds so many orders at one price. Whether each was taken.
 pub(crate) fn pile<B: Board>(board: &mut B, side: Side, price: u32, orders: u32) -> bool {
-    for time in 0..orders {
-        if board.add(side, price, time) != Ok(()) {
-            return false;
-        }
-    }
-    true
+    (0..orders).all(|time| board.add(side, price, time) == Ok(()))
 }
 
 /// Whether one more order at a price is refused like this.

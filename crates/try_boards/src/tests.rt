@@ -9,12 +9,6 @@ use ladder::Ladder;
 use ladder::records::{BuyLevel, SellLevel};
 use std::test::Fail;
 
-const BLANK: Level = Level {
-    price: 0,
-    orders: 0,
-    since: 0,
-};
-
 #[test]
 fn first_tests(rt: HostRuntime) {
     assert!(rt; matches!(Grid::test(0), Err(Refusal::OutOfRange)));
@@ -30,8 +24,8 @@ fn first_tests(rt: HostRuntime) {
 
 #[test]
 fn alike_under_many_orders(rt: HostRuntime) -> Result<(), Fail> {
-    let mut buys = [BuyLevel(BLANK); 256];
-    let mut sells = [SellLevel(BLANK); 256];
+    let mut buys = [BuyLevel::default(); 256];
+    let mut sells = [SellLevel::default(); 256];
     let Ok(()) = Ladder::test(256, 256) else {
         return Err(Fail::new("refused"));
     };
@@ -50,8 +44,8 @@ fn alike_under_many_orders(rt: HostRuntime) -> Result<(), Fail> {
 
 #[test]
 fn filled_to_the_last_level(rt: HostRuntime) -> Result<(), Fail> {
-    let mut buys = [BuyLevel(BLANK); 256];
-    let mut sells = [SellLevel(BLANK); 256];
+    let mut buys = [BuyLevel::default(); 256];
+    let mut sells = [SellLevel::default(); 256];
     let Ok(()) = Ladder::test(256, 256) else {
         return Err(Fail::new("refused"));
     };
@@ -78,8 +72,8 @@ fn filled_to_the_last_level(rt: HostRuntime) -> Result<(), Fail> {
 
 #[test]
 fn filled_to_the_last_order(rt: HostRuntime) -> Result<(), Fail> {
-    let mut buys = [BuyLevel(BLANK); 16];
-    let mut sells = [SellLevel(BLANK); 16];
+    let mut buys = [BuyLevel::default(); 16];
+    let mut sells = [SellLevel::default(); 16];
     let Ok(()) = Ladder::test(16, 16) else {
         return Err(Fail::new("refused"));
     };
@@ -115,8 +109,8 @@ fn filled_to_the_last_order(rt: HostRuntime) -> Result<(), Fail> {
 
 #[test]
 fn outside_the_range(rt: HostRuntime) -> Result<(), Fail> {
-    let mut buys = [BuyLevel(BLANK); 16];
-    let mut sells = [SellLevel(BLANK); 16];
+    let mut buys = [BuyLevel::default(); 16];
+    let mut sells = [SellLevel::default(); 16];
     let Ok(()) = Ladder::test(16, 16) else {
         return Err(Fail::new("refused"));
     };
@@ -144,8 +138,8 @@ fn outside_the_range(rt: HostRuntime) -> Result<(), Fail> {
 
 #[test]
 fn records_come_back(rt: HostRuntime) {
-    let mut buys = [BuyLevel(BLANK); 16];
-    let mut sells = [SellLevel(BLANK); 16];
+    let mut buys = [BuyLevel::default(); 16];
+    let mut sells = [SellLevel::default(); 16];
     assert_eq!(rt;
         lend_for_one(&mut buys, &mut sells),
         Some(Level {

@@ -12,7 +12,7 @@ invariant_of-self c =
     let p = c.args.self.now in
     let i = c.insert.ensures in
     let o = ap (in_order 0) i.live ∙ order_inserted c.args.window c.requires (announced_hours p) p.order c.if-overlaps.ensures (length (held p.shelf)) in
-    record { stands = i.stands; order = o; records = i.most ∙ p.records }
+    record { order = o; records = i.most ∙ p.records }
 
 pub returns-clause-answer : goal.returns-clause-answer
 returns-clause-answer c =
@@ -28,4 +28,4 @@ returns-clause-after c =
 pub returns-then-overlaps-clause-records : goal.returns-then-overlaps-clause-records
 returns-then-overlaps-clause-records c =
     let p = c.args.self.now in
-    over-same (announced_records p) p.shelf.len p.stands.0
+    over-same (announced_records p) p.shelf.len p.shelf.fits

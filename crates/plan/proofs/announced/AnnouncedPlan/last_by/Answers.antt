@@ -7,7 +7,7 @@ use Rattle.plan.proofs.announced.AnnouncedPlan.last_by.Goals as goal
 pub returns-in-Ok : goal.returns-in-Ok
 returns-in-Ok c =
     let p = c.args.self.now in
-    c.get.ensures ∙ found_at c.args.time (announced_hours p) c.in-Ok.at p.stands.1 c.in-Ok.ensures
+    c.get.ensures ∙ found_at c.args.time (announced_hours p) c.in-Ok.at p.shelf.sorted c.in-Ok.ensures
 
 pub returns-in_ok-checked_sub-in-Err : goal.returns-in_ok-checked_sub-in-Err
 returns-in_ok-checked_sub-in-Err c =
