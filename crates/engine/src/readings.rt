@@ -49,7 +49,7 @@ impl OpenDay {
     {
         match slot {
             Slot::Bounded(session, k) => Some(BoundedWindow {
-                session: session.code(),
+                session: u8::from(session),
                 k,
                 lp: self.lp(session),
                 up: self.figures.days.upward,

@@ -1,7 +1,7 @@
 //! The worked examples that are runs: each list of entries on a ladder and on a grid, with the trail of both, and one record's bytes.
 #![tactic(auto)]
 
-use board::{Board, Level};
+use board::Board;
 use engine::ClosedDay;
 use entry::refusals::Refusal;
 use entry::{Entry, Params, Side};
@@ -105,8 +105,8 @@ fn first_day<B: Board>(board: &mut B, entries: &[Entry], trail: &mut [TrailLine]
 }
 
 fn on_ladder(entries: &[Entry], trail: &mut [TrailLine]) {
-    let mut buys = [BuyLevel(Level::default()); 16];
-    let mut sells = [SellLevel(Level::default()); 16];
+    let mut buys = [BuyLevel::default(); 16];
+    let mut sells = [SellLevel::default(); 16];
     if Ladder::test(buys.len(), sells.len()).is_err() {
         return;
     }
