@@ -177,7 +177,7 @@ module _ (o : Opening) (h : List Entry) (w : State) (v : Agrees o h w) where
       let q = quotation_at w.day w.book t in
       let b = bounds o h (slot_at o.hours t) in
       subst (DynamicPair o h t) (sym (dynamic-of o h w v q (slot_at o.hours t)))
-      (q, quoted_at o h w v t, lower_exact (params o h) q b v.params_sound.3, upper_exact (params o h) q b v.params_sound.3)
+      (q, quoted_at o h w v t, lower_exact (params o h) q b _ refl v.params_sound.3, upper_exact (params o h) q b _ refl v.params_sound.3)
 
   days-marked : (b : Bool) {M : Type 0} (n m : ℕ) → Decides b M → n ≡ m → (M → days_after b n ≡ 2) × ((M → ⊥) → days_after b n ≡ m - 1)
   days-marked true n m d e = ((λ _. refl), λ f. absurd (f (d.0 refl)))
