@@ -1,14 +1,13 @@
 // The commands that need no board: plans, and another board.
 use crate::report::{Answer, Halt, NewBoard, OutOfPlace};
 use entry::refusals::Refusal;
-use entry::windows::Announcement;
 use grid::Grid;
 use ladder::Ladder;
 use plan::announced::AnnouncedPlan;
 use plan::announced::calls::MOST_WINDOWS;
 use plan::fixed::FixedPlan;
-use plan::{Plan, Slot, Window};
-use script::command::{Bounding, Command};
+use plan::{Announcement, Plan, Slot, Window};
+use script::command::Command;
 use std::alloc::{AllocError, Global};
 
 /// The plan that a script has: a fixed one, or the windows announced so far.
@@ -16,21 +15,6 @@ use std::alloc::{AllocError, Global};
 pub(crate) enum Timetable {
     Fixed(FixedPlan),
     Announced(Vec<Announcement>),
-}
-
-const BLANK: Window = Window {
-    start: 0,
-    end: 0,
-    slot: Slot::NoSession,
-};
-
-// Announces a window to a plan.
-fn announce(plan: &mut AnnouncedPlan, asked: Announcement) -> Result<(), Refusal> {
-    let bounding = match asked.bounding {
-        entry::windows::Bounding::Free => plan::Bounding::Free,
-        entry::windows::Bounding::Bounded => plan::Bounding::Bounded,
-    };
-    plan.window(asked.start, asked.end, asked.session, bounding, asked.k)
 }
 
 // The plan of the windows announced so far, over the records handed over. It is made anew for each command, since a plan lives no
@@ -41,7 +25,7 @@ fn announced<'a>(
 ) -> AnnouncedPlan<'a> {
     let mut plan = AnnouncedPlan::new(records);
     for window in windows {
-        let _accepted = announce(&mut plan, *window);
+        let _accepted = plan.window(*window);
     }
     plan
 }
@@ -58,8 +42,8 @@ fn window(timetable: &mut Option<Timetable>, asked: Announcement) -> Result<Answ
     let Some(Timetable::Announced(windows)) = timetable else {
         return Err(OutOfPlace::NoAnnouncedPlan.into());
     };
-    let mut records = [BLANK; MOST_WINDOWS];
-    let outcome = announce(&mut announced(&mut records, windows.as_slice()), asked);
+    let mut records = [Window::default(); MOST_WINDOWS];
+    let outcome = announced(&mut records, windows.as_slice()).window(asked);
     if outcome.is_ok() {
         windows.push(asked).map_err(AllocError::from)?;
     }
@@ -72,7 +56,7 @@ fn slot(timetable: &Option<Timetable>, time: u32) -> Result<Slot, Halt> {
         None => Err(OutOfPlace::NoPlan.into()),
         Some(Timetable::Fixed(plan)) => Ok(plan.slot(time)),
         Some(Timetable::Announced(windows)) => {
-            let mut records = [BLANK; MOST_WINDOWS];
+            let mut records = [Window::default(); MOST_WINDOWS];
             Ok(announced(&mut records, windows.as_slice()).slot(time))
         }
     }
@@ -103,26 +87,7 @@ pub(crate) fn plan_answer(
             *timetable = Some(Timetable::Announced(Vec::new(heap)));
             Answer::Done(Ok(()))
         }
-        Command::Window {
-            start,
-            end,
-            session,
-            bounding,
-            k,
-        } => {
-            let bounding = match bounding {
-                Bounding::Free => entry::windows::Bounding::Free,
-                Bounding::Bounded => entry::windows::Bounding::Bounded,
-            };
-            let asked = Announcement {
-                start,
-                end,
-                session,
-                bounding,
-                k,
-            };
-            window(timetable, asked)?
-        }
+        Command::Window(asked) => window(timetable, asked)?,
         Command::Session { time } => Answer::Slot(slot(timetable, time)?),
         Command::Ladder { count } => ladder(count).into(),
         Command::Grid { start } => grid(start).into(),

@@ -3,7 +3,7 @@ ghost use Rattle.std.specs.Prelude.{Some};
 ghost use Rattle.day.specs.Stops.{stop_text};
 
 use entry::refusals::Refusal;
-use plan::{Session, Slot};
+use plan::Slot;
 use std::alloc::AllocError;
 use std::fmt;
 
@@ -107,27 +107,13 @@ impl From<Result<NewBoard, Refusal>> for Answer {
     }
 }
 
-// A function and no Display, which would have to stand in the plans' crate.
-fn session_name(session: Session) -> &'static str {
-    match session {
-        Session::Morning => "morning",
-        Session::Main => "main",
-        Session::Evening => "evening",
-        Session::Weekend => "weekend",
-    }
-}
-
 /// The answer as it is printed behind its command.
 impl fmt::Display for Answer {
     fn fmt<W: fmt::Write>(&self, f: &mut fmt::Formatter<W>) -> fmt::Result {
         match self {
             Answer::Done(Ok(())) | Answer::Board(_) => write!(f, "ok"),
             Answer::Done(Err(refusal)) => write!(f, "refused {}", refusal.number()),
-            Answer::Slot(Slot::NoSession) => write!(f, "none"),
-            Answer::Slot(Slot::Free(session)) => write!(f, "{} free", session_name(*session)),
-            Answer::Slot(Slot::Bounded(session, k)) => {
-                write!(f, "{} bounded {k}", session_name(*session))
-            }
+            Answer::Slot(slot) => write!(f, "{slot}"),
             Answer::Levels(text) => write!(f, "{text}"),
         }
     }

@@ -77,8 +77,8 @@ impl<'a> Desk<'a> {
         let heap = self.heap;
         match board {
             NewBoard::Ladder(count) => {
-                let mut buys = vec![in heap; BuyLevel(Level::default()); count]?;
-                let mut sells = vec![in heap; SellLevel(Level::default()); count]?;
+                let mut buys = vec![in heap; BuyLevel::default(); count]?;
+                let mut sells = vec![in heap; SellLevel::default(); count]?;
                 if Ladder::test(buys.len(), sells.len()).is_err() {
                     return self.without_board();
                 }

@@ -5,6 +5,7 @@ pub mod announced;
 pub mod fixed;
 mod records;
 pub mod slots;
+mod texts;
 
 ghost use Rattle.std.specs.Prelude.{◌≡◌, true, List};
 ghost use Rattle.plan.specs.declared.slots.Window.{Window};
