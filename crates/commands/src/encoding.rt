@@ -21,7 +21,7 @@ pub struct Encoded {
 }
 
 /// Why a line cannot be written to a feed.
-#[derive(Clone, Copy)]
+#[derive(Clone, Copy, PartialEq, Eq, Debug)]
 pub enum Flaw<'a> {
     /// The line cannot be read.
     Unreadable(LineFault<'a>),
@@ -34,7 +34,7 @@ pub enum Flaw<'a> {
 }
 
 /// Why a script has no feed: the line, from 1, and what is wrong with it.
-#[derive(Clone, Copy)]
+#[derive(Clone, Copy, PartialEq, Eq, Debug)]
 pub struct ScriptFault<'a> {
     pub line: usize,
     pub flaw: Flaw<'a>,
@@ -68,7 +68,7 @@ impl<'a> From<LineFault<'a>> for Flaw<'a> {
     ghost from_gives = { λ fault result. result ≡ Unreadable fault };
 
     fn from(fault: LineFault<'a>) -> Flaw<'a> {
-        Flaw::Unreadable(fault)
+        Self::Unreadable(fault)
     }
 }
 
@@ -105,13 +105,15 @@ pub fn encode_script<'a>(heap: Global, script: &'a str) -> Result<Encoded, Scrip
 {
     let mut feed = Vec::new(heap);
     let mut records = 0;
-    let mut number = 0;
-    let mut lines = Lines::new(script);
-    while let Some(line) = lines.next() {
-        number += 1;
+    for (index, line) in Lines::new(script).enumerate() {
         match append_line(&mut feed, line) {
             Ok(added) => records += usize::from(added),
-            Err(flaw) => return Err(ScriptFault { line: number, flaw }),
+            Err(flaw) => {
+                return Err(ScriptFault {
+                    line: index + 1,
+                    flaw,
+                });
+            }
         }
     }
     Ok(Encoded { feed, records })

@@ -8,7 +8,7 @@ use feed::whole::{Readings, read};
 use script::print::Plain;
 use std::alloc::{AllocError, Global};
 
-/// The lines of a feed, and whether it was read to its end.
+/// The lines of a feed, and whether it was read to its end. A listing that ends at a fault has lines too, so it is no error.
 #[derive(Drop, PartialEq, Eq, Debug)]
 pub struct Listing {
     pub text: String,
