@@ -23,6 +23,7 @@ pub struct Params {
     pub lr: u32,
 }
 
+// Modes and sessions are numbers here, since any may come and the engine refuses those that are none.
 /// One entry. Times are milliseconds since midnight of the trading day's first calendar day, prices are price units.
 #[derive(Clone, Copy, PartialEq, Eq, Debug)]
 pub enum Entry {

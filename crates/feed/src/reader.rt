@@ -47,6 +47,7 @@ impl<'a> Reader<'a> {
         Ok(())
     }
 
+    // No iterator, since what comes after a fault is the fault again, for ever.
     /// The next entry, or `None` at the feed's end. A fault and the end leave the reader as it was, so that asking
     /// again gives the same answer.
     pub fn next(&mut self) -> Result<Option<Entry>, Refusal>

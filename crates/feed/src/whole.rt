@@ -73,6 +73,7 @@ pub fn append(feed: &mut Vec<u8>, entry: Entry) -> Result<(), WriteFault>
     ensures after { feed.new.items ≡ (if is_ok result then feed.old.items ++ record_of entry else feed.old.items) }
     ensures holds { OnOk result ((es : List Entry) → Holds feed.old.items es → Holds feed.new.items (es ++ (entry ∷ []))) }
 {
+    // The record is written in fixed memory first, since `encode` serves callers that have no heap.
     let mut record = [0; 20];
     let size = encode(entry, &mut record)?;
     if feed.len() > LONGEST - size {

@@ -83,7 +83,7 @@ impl Grid {
         self.sides.of(side).get(rank)
     }
 
-    // Stores a cell of a side at a rank.
+    // Stores a cell of a side at a rank. It matches on the side, since `Sides::with` would copy all cells.
     fn put(&mut self, side: Side, rank: u8, cell: Cell)
         ensures { grid_book self.new ≡ with_levels (grid_book self.old) side (levels side self.old.start 0 (slice_set (cells_of side self.old) rank cell)) }
     {

@@ -54,6 +54,7 @@ impl<'a> Ladder<'a> {
     }
 }
 
+// Each call matches on the side, since the two shelves are of two types, so that no record can get to the other side.
 impl Board for Ladder<'_> {
     ghost book = { ladder_book };
 

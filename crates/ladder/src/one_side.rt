@@ -86,6 +86,7 @@ fn begin_on<const SELL: bool>(
     if price < LOWEST_PRICE || price > HIGHEST_PRICE {
         return Err(BoardFault::NoPlace);
     }
+    // With `map_err` the check knows too little of the answer where it proves the levels.
     match shelf.insert(SideLevel(Level::new(price, time))) {
         Ok(()) => Ok(()),
         Err(_) => Err(BoardFault::NoPlace),

@@ -9,6 +9,7 @@ use entry::kinds::Kind;
 use script::faults::LineFault;
 use script_words::words::Words;
 
+// A function and no `FromStr`, which would stand in the entries' crate, where no words of scripts are known.
 /// The kind of entry that a command begins, if it begins one.
 pub fn kind_named(name: &str) -> Option<Kind>
     ensures answer { result ≡ kind_named name.now }

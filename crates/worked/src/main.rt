@@ -104,6 +104,7 @@ fn first_day<B: Board>(board: &mut B, entries: &[Entry], trail: &mut [TrailLine]
     }
 }
 
+// The two functions differ in how a board is made, and share what is done on it.
 fn on_ladder(entries: &[Entry], trail: &mut [TrailLine]) {
     let mut buys = [BuyLevel::default(); 16];
     let mut sells = [SellLevel::default(); 16];
