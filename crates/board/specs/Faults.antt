@@ -2,7 +2,6 @@
 use Rattle.std.specs.Prelude.{ℕ}
 use Rattle.entry.specs.declared.refusals.Refusal.{Refusal}
 use Rattle.entry.specs.declared.refusals.Refusal.TheVariants as why
-use Rattle.entry.specs.Refusals.{number}
 use Rattle.board.specs.declared.faults.BoardFault.{BoardFault}
 use Rattle.board.specs.declared.faults.BoardFault.TheVariants.{LevelFull, NoPlace, NothingThere}
 

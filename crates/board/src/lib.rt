@@ -4,6 +4,7 @@
 pub mod faults;
 pub mod levels;
 pub mod listing;
+pub mod standing;
 
 ghost use Rattle.std.specs.Prelude.{◌≡◌, ℕ, List};
 ghost use Rattle.board.specs.Book.{Book, best_of, level_at, next_after, levels_of, is_empty};

@@ -3,37 +3,27 @@ ghost use Rattle.std.specs.Prelude.{◌≡◌};
 ghost use Rattle.day.specs.Boards.{board_after};
 
 use crate::report::{Answer, Halt, OutOfPlace};
+use board::standing::Levels;
 use board::{Board, Level};
 use entry::Side;
 use entry::refusals::Refusal;
 use script::command::Command;
 use std::alloc::{AllocError, Global};
 
-/// The most levels a side of any board of a script.
-const MOST_LEVELS: usize = 4_096;
-
 // The levels of a side, best first.
 fn levels<B: Board>(heap: Global, board: &B, side: Side) -> Result<String, AllocError> {
     let mut text = String::new(heap);
-    let mut standing = board.best(side);
-    // Counted, so that the loop ends over any board.
-    for _ in 0..MOST_LEVELS {
-        let Some(
-            Level {
-                price,
-                orders,
-                since,
-            },
-        ) = standing
-        else {
-            break;
-        };
+    for Level {
+        price,
+        orders,
+        since,
+    } in Levels::of(board, side)
+    {
         if !text.is_empty() {
             text.push_str(" ")?;
         }
-        let one = format!(in heap; "{price}:{orders}:{since}")?;
-        text.push_str(one.as_str())?;
-        standing = board.next(side, price);
+        let level = format!(in heap; "{price}:{orders}:{since}")?;
+        text.push_str(level.as_str())?;
     }
     if text.is_empty() {
         text.push_str("none")?;
