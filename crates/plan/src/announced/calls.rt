@@ -11,11 +11,13 @@ use entry::refusals::Refusal;
 use entry::windows::{Announcement, Bounding};
 use shelf::Shelf;
 
-/// The most windows of a plan, the latest end of one, and the greatest K.
+/// The most windows of a plan.
 pub const MOST_WINDOWS: usize = 32;
 
+/// The latest end of a window, in milliseconds: ten calendar days.
 const LATEST_END: u32 = 864_000_000;
 
+/// The greatest K of a bounded window, in thousandths.
 const GREATEST_K: u32 = 1_000;
 
 // The window that is asked for, where its figures are in range.
