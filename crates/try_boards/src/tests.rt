@@ -26,13 +26,9 @@ fn first_tests(rt: HostRuntime) {
 fn alike_under_many_orders(rt: HostRuntime) -> Result<(), Fail> {
     let mut buys = [BuyLevel::default(); 256];
     let mut sells = [SellLevel::default(); 256];
-    let Ok(()) = Ladder::test(256, 256) else {
-        return Err(Fail::new("refused"));
-    };
+    Ladder::test(256, 256)?;
     let mut ladder = Ladder::new(&mut buys, &mut sells);
-    let Ok(()) = Grid::test(1_000) else {
-        return Err(Fail::new("refused"));
-    };
+    Grid::test(1_000)?;
     let mut grid = Grid::new(1_000);
     assert!(rt; same_answers(&mut ladder, &mut grid, 1_000, 100_000));
     assert!(rt; same_levels(&ladder, &grid, Side::Buy, 256));
@@ -46,13 +42,9 @@ fn alike_under_many_orders(rt: HostRuntime) -> Result<(), Fail> {
 fn filled_to_the_last_level(rt: HostRuntime) -> Result<(), Fail> {
     let mut buys = [BuyLevel::default(); 256];
     let mut sells = [SellLevel::default(); 256];
-    let Ok(()) = Ladder::test(256, 256) else {
-        return Err(Fail::new("refused"));
-    };
+    Ladder::test(256, 256)?;
     let mut ladder = Ladder::new(&mut buys, &mut sells);
-    let Ok(()) = Grid::test(1_000) else {
-        return Err(Fail::new("refused"));
-    };
+    Grid::test(1_000)?;
     let mut grid = Grid::new(1_000);
     assert!(rt; fill(&mut ladder, Side::Buy, 1_000, 256));
     assert!(rt; fill(&mut grid, Side::Buy, 1_000, 256));
@@ -74,13 +66,9 @@ fn filled_to_the_last_level(rt: HostRuntime) -> Result<(), Fail> {
 fn filled_to_the_last_order(rt: HostRuntime) -> Result<(), Fail> {
     let mut buys = [BuyLevel::default(); 16];
     let mut sells = [SellLevel::default(); 16];
-    let Ok(()) = Ladder::test(16, 16) else {
-        return Err(Fail::new("refused"));
-    };
+    Ladder::test(16, 16)?;
     let mut ladder = Ladder::new(&mut buys, &mut sells);
-    let Ok(()) = Grid::test(1_000) else {
-        return Err(Fail::new("refused"));
-    };
+    Grid::test(1_000)?;
     let mut grid = Grid::new(1_000);
     assert!(rt; pile(&mut ladder, Side::Sell, 1_010, 65_535));
     assert!(rt; pile(&mut grid, Side::Sell, 1_010, 65_535));
@@ -111,13 +99,9 @@ fn filled_to_the_last_order(rt: HostRuntime) -> Result<(), Fail> {
 fn outside_the_range(rt: HostRuntime) -> Result<(), Fail> {
     let mut buys = [BuyLevel::default(); 16];
     let mut sells = [SellLevel::default(); 16];
-    let Ok(()) = Ladder::test(16, 16) else {
-        return Err(Fail::new("refused"));
-    };
+    Ladder::test(16, 16)?;
     let mut ladder = Ladder::new(&mut buys, &mut sells);
-    let Ok(()) = Grid::test(1) else {
-        return Err(Fail::new("refused"));
-    };
+    Grid::test(1)?;
     let mut grid = Grid::new(1);
     assert!(rt; refuses(&mut ladder, Side::Buy, 0, BoardFault::NoPlace));
     assert!(rt; refuses(&mut grid, Side::Buy, 0, BoardFault::NoPlace));
