@@ -10,6 +10,7 @@ use entry::Side;
 use shelf::Record;
 
 /// A record that holds a level of one side, the sell side or else the buy side.
+// A const parameter is an integer or a bool, so a bool tells the side, and `side` gives it as a Side.
 #[derive(Clone, Copy, PartialEq, Eq, Debug, Default)]
 pub struct SideLevel<const SELL: bool>(pub Level);
 
