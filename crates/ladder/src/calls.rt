@@ -24,7 +24,7 @@ impl<'a> Ladder<'a> {
     pub fn test(buys: usize, sells: usize) -> Result<(), Refusal>
         ensures answer { result ≡ counts_answer buys sells }
     {
-        if buys >= FEWEST && buys <= MOST && sells == buys {
+        if (FEWEST..=MOST).contains(&buys) && sells == buys {
             Ok(())
         } else {
             Err(Refusal::OutOfRange)

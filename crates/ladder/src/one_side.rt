@@ -83,7 +83,7 @@ fn begin_on<const SELL: bool>(
     ensures most { length (held shelf.new) ≡ length (held shelf.old) }
     ensures lent { shelf.new.records.ghost_name ≡ shelf.old.records.ghost_name }
 {
-    if price < LOWEST_PRICE || price > HIGHEST_PRICE {
+    if !(LOWEST_PRICE..=HIGHEST_PRICE).contains(&price) {
         return Err(BoardFault::NoPlace);
     }
     // With `map_err` the check knows too little of the answer where it proves the levels.
