@@ -98,6 +98,7 @@ impl<'a, R: Record> Shelf<'a, R> {
         if len == self.records.len() {
             return Err(ShelfFault::NoRoom);
         }
+        // A borrow of its own: the order has to hold again only when the count is written too.
         let records = &mut *self.records;
         open_gap(records, len, at, item);
         self.len = len + 1;

@@ -1,4 +1,5 @@
 // Writes to the records handed over: one more among the first, and one less.
+// They stand apart from the shelf's calls, since their proofs speak of slices alone.
 ghost use Rattle.std.specs.Prelude.{◌≡◌, ◌+◌, ◌-◌, ◌<◌, ◌≤◌, ◌++◌, length, take, drop};
 ghost use Rattle.std.specs.List.{insert, remove};
 
@@ -12,7 +13,7 @@ pub fn open_gap<X: Copy>(records: &mut [X], len: usize, at: usize, item: X)
     records[at] = item;
 }
 
-// Draws back the records past a place among the first `len`; the last of these stays where it was too.
+// Moves the records past a place among the first `len` one place to the front; the last of these stays where it was too.
 pub fn close_gap<X: Copy>(records: &mut [X], len: usize, at: usize)
     requires inside { at < len }
     requires room { len ≤ length records.old }
