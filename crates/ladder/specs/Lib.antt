@@ -4,4 +4,5 @@ pub mod Better
 pub mod Records
 pub mod Counts
 pub mod OneSide
+pub mod Standing
 pub mod Holding
