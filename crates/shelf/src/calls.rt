@@ -1,4 +1,5 @@
 // The calls of a shelf.
+// That a call keeps the number of records and the loan stands as two clauses, since proofs above cite each by its name.
 ghost use Rattle.std.specs.Prelude.{◌≡◌, ◌<◌, [], length};
 ghost use Rattle.std.specs.List.{remove, slice_get};
 ghost use Rattle.shelf.specs.Order.{first_after, place, sought};
