@@ -1,13 +1,11 @@
-// The commands that need no board: plans, and another board.
-use crate::report::{Answer, Halt, NewBoard, OutOfPlace};
+// The commands for plans.
+use crate::report::{Answer, Halt, OutOfPlace};
 use entry::refusals::Refusal;
-use grid::Grid;
-use ladder::Ladder;
 use plan::announced::AnnouncedPlan;
 use plan::announced::calls::MOST_WINDOWS;
 use plan::fixed::FixedPlan;
 use plan::{Announcement, Plan, Slot, Window};
-use script::command::Command;
+use script::command::PlanCommand;
 use std::alloc::{AllocError, Global};
 
 /// The plan that a script has: a fixed one, or the windows announced so far.
@@ -62,42 +60,19 @@ fn slot(timetable: &Option<Timetable>, time: u32) -> Result<Slot, Halt> {
     }
 }
 
-// Another ladder, if its first test is passed.
-fn ladder(count: u32) -> Result<NewBoard, Refusal> {
-    let count = count as usize;
-    Ladder::test(count, count)?;
-    Ok(NewBoard::Ladder(count))
-}
-
-// Another grid, if its first test is passed.
-fn grid(start: u32) -> Result<NewBoard, Refusal> {
-    Grid::test(start)?;
-    Ok(NewBoard::Grid(start))
-}
-
-/// What a command is answered that needs no board; none for one that does.
+/// What a command for plans is answered.
 pub(crate) fn plan_answer(
     heap: Global,
     timetable: &mut Option<Timetable>,
-    command: Command,
-) -> Result<Option<Answer>, Halt> {
-    let answer = match command {
-        Command::FixedPlan { days, group } => Answer::Done(fixed(timetable, days, group)),
-        Command::AnnouncedPlan => {
+    command: PlanCommand,
+) -> Result<Answer, Halt> {
+    match command {
+        PlanCommand::Fixed { days, group } => Ok(Answer::Done(fixed(timetable, days, group))),
+        PlanCommand::Announced => {
             *timetable = Some(Timetable::Announced(Vec::new(heap)));
-            Answer::Done(Ok(()))
+            Ok(Answer::Done(Ok(())))
         }
-        Command::Window(asked) => window(timetable, asked)?,
-        Command::Session { time } => Answer::Slot(slot(timetable, time)?),
-        Command::Ladder { count } => ladder(count).into(),
-        Command::Grid { start } => grid(start).into(),
-        Command::Listed | Command::Open { .. } => {
-            return Err(OutOfPlace::DaysNotBuilt.into());
-        }
-        Command::Entry(_) | Command::Limits { .. } | Command::Feed { .. } | Command::Close => {
-            return Err(OutOfPlace::NoOpenDay.into());
-        }
-        Command::Add { .. } | Command::Take { .. } | Command::Levels { .. } => return Ok(None),
-    };
-    Ok(Some(answer))
+        PlanCommand::Window(asked) => window(timetable, asked),
+        PlanCommand::Session { time } => Ok(Answer::Slot(slot(timetable, time)?)),
+    }
 }

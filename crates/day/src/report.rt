@@ -33,7 +33,6 @@ pub struct Report {
 #[derive(Clone, Copy, PartialEq, Eq, Debug)]
 pub(crate) enum OutOfPlace {
     NoBoard,
-    NoBoardCommand,
     NoPlan,
     NoAnnouncedPlan,
     NoOpenDay,
@@ -44,7 +43,6 @@ impl fmt::Display for OutOfPlace {
     fn fmt<W: fmt::Write>(&self, f: &mut fmt::Formatter<W>) -> fmt::Result {
         match self {
             OutOfPlace::NoBoard => write!(f, "there is no board"),
-            OutOfPlace::NoBoardCommand => write!(f, "this is no command for a board"),
             OutOfPlace::NoPlan => write!(f, "there is no plan"),
             OutOfPlace::NoAnnouncedPlan => write!(f, "there is no announced plan"),
             OutOfPlace::NoOpenDay => write!(f, "no day is open"),

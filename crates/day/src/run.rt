@@ -2,14 +2,14 @@
 ghost use Rattle.std.specs.Prelude.{◌<◌, length, IfOk, OnSome};
 ghost use Rattle.script_words.specs.Lines.{to_come};
 
-use crate::boards::board_answer;
+use crate::boards::{board_answer, new_board};
 use crate::plans::{Timetable, plan_answer};
 use crate::report::{Answer, Halt, NewBoard, OutOfPlace, Report, Stop};
 use board::Level;
 use grid::Grid;
 use ladder::Ladder;
 use ladder::records::{BuyLevel, SellLevel};
-use script::command::Command;
+use script::command::{BoardCommand, Command, DayCommand};
 use script_parse::parse::parse;
 use script_words::lines::Lines;
 use std::alloc::{AllocError, Global};
@@ -42,7 +42,7 @@ impl<'a> Desk<'a> {
     }
 
     // Carries out lines until one asks for another board. Commands for a board are answered by the function that is passed.
-    fn stretch<F: FnMut(Command<'a>) -> Result<Answer, Halt>>(
+    fn stretch<F: FnMut(BoardCommand) -> Result<Answer, Halt>>(
         &mut self,
         mut on_board: F,
     ) -> Result<Option<NewBoard>, Halt>
@@ -50,9 +50,14 @@ impl<'a> Desk<'a> {
         ensures fewer { IfOk result (λ next. OnSome next (length (to_come self.new.lines) < length (to_come self.old.lines))) }
     {
         while let Some(command) = self.command()? {
-            let answer = match plan_answer(self.heap, &mut self.timetable, command)? {
-                Some(answer) => answer,
-                None => on_board(command)?,
+            let answer = match command {
+                Command::Plan(plan) => plan_answer(self.heap, &mut self.timetable, plan)?,
+                Command::NewBoard(shape) => new_board(shape).into(),
+                Command::Board(board) => on_board(board)?,
+                Command::Day(DayCommand::Listed | DayCommand::Open { .. }) => {
+                    return Err(OutOfPlace::DaysNotBuilt.into());
+                }
+                Command::Entry(_) | Command::Day(_) => return Err(OutOfPlace::NoOpenDay.into()),
             };
             let line = format!(in self.heap; "{command} -> {answer}\n")?;
             self.text.push_str(line.as_str())?;

@@ -1,9 +1,11 @@
 // The plain form of entries, commands and refusals: words and decimal figures with single blanks between.
 ghost use Rattle.std.specs.Prelude.{Some};
-ghost use Rattle.script.specs.Commands.{bounding_text, limit_text, command_text};
+ghost use Rattle.script.specs.Commands.{bounding_text, limit_text, plan_text, shape_text, board_text, day_text, command_text};
 ghost use Rattle.script.specs.Print.{entry_text, side_text, params_text, refusal_text};
 
-use crate::command::{Announcement, Bounding, Command, LimitKind};
+use crate::command::{
+    Announcement, BoardCommand, BoardShape, Bounding, Command, DayCommand, LimitKind, PlanCommand,
+};
 use entry::refusals::Refusal;
 use entry::{Entry, Params, Side};
 use std::fmt;
@@ -102,14 +104,14 @@ impl fmt::Display for LimitKind {
     }
 }
 
-impl fmt::Display for Command<'_> {
-    ghost output = { λ command. Some (command_text command) };
+impl fmt::Display for PlanCommand {
+    ghost output = { λ command. Some (plan_text command) };
 
     fn fmt<W: fmt::Write>(&self, f: &mut fmt::Formatter<W>) -> fmt::Result {
         match *self {
-            Command::FixedPlan { days, group } => write!(f, "plan fixed {days} {group}"),
-            Command::AnnouncedPlan => write!(f, "plan announced"),
-            Command::Window(
+            PlanCommand::Fixed { days, group } => write!(f, "plan fixed {days} {group}"),
+            PlanCommand::Announced => write!(f, "plan announced"),
+            PlanCommand::Window(
                 Announcement {
                     start,
                     end,
@@ -118,18 +120,60 @@ impl fmt::Display for Command<'_> {
                     k,
                 },
             ) => write!(f, "window {start} {end} {session} {} {k}", Plain(bounding)),
-            Command::Session { time } => write!(f, "session {time}"),
-            Command::Ladder { count } => write!(f, "board ladder {count}"),
-            Command::Grid { start } => write!(f, "board grid {start}"),
-            Command::Add { side, price, time } => write!(f, "add {} {price} {time}", Plain(side)),
-            Command::Take { side, price } => write!(f, "take {} {price}", Plain(side)),
-            Command::Listed => write!(f, "listed"),
-            Command::Open { time, params } => write!(f, "open {time} {}", Plain(params)),
+            PlanCommand::Session { time } => write!(f, "session {time}"),
+        }
+    }
+}
+
+impl fmt::Display for BoardShape {
+    ghost output = { λ shape. Some (shape_text shape) };
+
+    fn fmt<W: fmt::Write>(&self, f: &mut fmt::Formatter<W>) -> fmt::Result {
+        match *self {
+            BoardShape::Ladder { count } => write!(f, "board ladder {count}"),
+            BoardShape::Grid { start } => write!(f, "board grid {start}"),
+        }
+    }
+}
+
+impl fmt::Display for BoardCommand {
+    ghost output = { λ command. Some (board_text command) };
+
+    fn fmt<W: fmt::Write>(&self, f: &mut fmt::Formatter<W>) -> fmt::Result {
+        match *self {
+            BoardCommand::Add { side, price, time } => {
+                write!(f, "add {} {price} {time}", Plain(side))
+            }
+            BoardCommand::Take { side, price } => write!(f, "take {} {price}", Plain(side)),
+            BoardCommand::Levels { side } => write!(f, "levels {}", Plain(side)),
+        }
+    }
+}
+
+impl fmt::Display for DayCommand<'_> {
+    ghost output = { λ command. Some (day_text command) };
+
+    fn fmt<W: fmt::Write>(&self, f: &mut fmt::Formatter<W>) -> fmt::Result {
+        match *self {
+            DayCommand::Listed => write!(f, "listed"),
+            DayCommand::Open { time, params } => write!(f, "open {time} {}", Plain(params)),
+            DayCommand::Limits { which, time } => write!(f, "limits {which} {time}"),
+            DayCommand::Feed { file } => write!(f, "feed {file}"),
+            DayCommand::Close => write!(f, "close"),
+        }
+    }
+}
+
+impl fmt::Display for Command<'_> {
+    ghost output = { λ command. Some (command_text command) };
+
+    fn fmt<W: fmt::Write>(&self, f: &mut fmt::Formatter<W>) -> fmt::Result {
+        match *self {
             Command::Entry(entry) => write!(f, "{}", Plain(entry)),
-            Command::Limits { which, time } => write!(f, "limits {which} {time}"),
-            Command::Levels { side } => write!(f, "levels {}", Plain(side)),
-            Command::Feed { file } => write!(f, "feed {file}"),
-            Command::Close => write!(f, "close"),
+            Command::Plan(plan) => write!(f, "{plan}"),
+            Command::NewBoard(shape) => write!(f, "{shape}"),
+            Command::Board(board) => write!(f, "{board}"),
+            Command::Day(day) => write!(f, "{day}"),
         }
     }
 }

@@ -88,20 +88,10 @@ entry_read e h =
 -- a command that is an entry is that entry's command
 entry_command : (command : Command) (e : Entry) → entry_in command ≡ Some e → command ≡ asks.Entry e
 entry_command (asks.Entry entry) e h = cc
-entry_command (asks.FixedPlan days group) e h = cc
-entry_command asks.AnnouncedPlan e h = cc
-entry_command (asks.Window w) e h = cc
-entry_command (asks.Session time) e h = cc
-entry_command (asks.Ladder count) e h = cc
-entry_command (asks.Grid start) e h = cc
-entry_command (asks.Add side price time) e h = cc
-entry_command (asks.Take side price) e h = cc
-entry_command asks.Listed e h = cc
-entry_command (asks.Open time params) e h = cc
-entry_command (asks.Limits which time) e h = cc
-entry_command (asks.Levels side) e h = cc
-entry_command (asks.Feed file) e h = cc
-entry_command asks.Close e h = cc
+entry_command (asks.Plan command) e h = cc
+entry_command (asks.NewBoard asked) e h = cc
+entry_command (asks.Board command) e h = cc
+entry_command (asks.Day command) e h = cc
 
 entry_answer : {E : Type 0} (r : Result (Option Command) E) (e : Entry) → entry_parsed r ≡ Some e → r ≡ Ok (Some (asks.Entry e))
 entry_answer (Ok None) e h = cc

@@ -1,5 +1,5 @@
 -- The entry that a line is.
-use Rattle.std.specs.Prelude.{◌≡◌, IfOk, ℕ, cond, List, [], ◌∷◌, Some, None, Ok, Err, codes, Option, Result}
+use Rattle.std.specs.Prelude.{ℕ, cond, List, [], ◌∷◌, Some, None, Ok, Err, codes, Option, Result}
 use Rattle.std.specs.Str.{bytes_eq}
 use Rattle.entry.specs.declared.Entry.{Entry}
 use Rattle.entry.specs.declared.Entry.TheVariants as made
@@ -57,10 +57,6 @@ entry_of line = entry_of_words (words_of (uncommented line))
 abbrev pub entry_answered : {E : Type 0} → Result Command E → List Bytes → Read Entry
 entry_answered (Ok command) ws = before ws (entry_in command)
 entry_answered (Err e) ws = None
-
--- a command that was read is no entry
-abbrev pub NoEntry : {E : Type 0} → Result Command E → Type 0
-NoEntry read = IfOk read (λ command. entry_in command ≡ None)
 
 -- the entry that was read, if one was
 abbrev pub entry_parsed : {E : Type 0} → Result (Option Command) E → Option Entry

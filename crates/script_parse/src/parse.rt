@@ -4,10 +4,12 @@ ghost use Rattle.entry.specs.declared.Entry.{Entry};
 ghost use Rattle.script.specs.Spelling.{Fits};
 ghost use Rattle.script.specs.Print.{entry_text};
 ghost use Rattle.script_words.specs.Words.{left};
-ghost use Rattle.script_parse.specs.Entries.{entry_of, entry_if, entry_answered, entry_parsed, kind_named, NoEntry};
+ghost use Rattle.script_parse.specs.Entries.{entry_of, entry_if, entry_answered, entry_parsed, kind_named};
 
 use crate::entries::{entry, kind_named};
-use script::command::{Announcement, Bounding, Command, LimitKind};
+use script::command::{
+    Announcement, BoardCommand, BoardShape, Bounding, Command, DayCommand, LimitKind, PlanCommand,
+};
 use script::faults::LineFault;
 use script_words::words::Words;
 
@@ -29,34 +31,26 @@ pub fn parse(line: &str) -> Result<Option<Command<'_>>, LineFault<'_>>
 fn command<'a>(name: &'a str, words: &mut Words<'a>) -> Result<Command<'a>, LineFault<'a>>
     ensures answer { entry_answered result (left words.new) ≡ entry_if (kind_named name.now) (left words.old) }
 {
-    match kind_named(name) {
-        Some(kind) => {
-            let entry = entry(kind, words)?;
-            Ok(Command::Entry(entry))
-        }
-        None => other_command(name, words),
+    if let Some(kind) = kind_named(name) {
+        let entry = entry(kind, words)?;
+        return Ok(Command::Entry(entry));
     }
-}
-
-/// Takes the words of a command that is no entry.
-fn other_command<'a>(name: &'a str, words: &mut Words<'a>) -> Result<Command<'a>, LineFault<'a>>
-    ensures answer { NoEntry result }
-{
-    match name {
-        "plan" => plan(words),
-        "window" => window(words),
-        "session" => session(words),
-        "board" => board(words),
-        "add" => add(words),
-        "take" => take(words),
-        "listed" => Ok(Command::Listed),
-        "open" => open(words),
-        "limits" => limits(words),
-        "levels" => levels(words),
-        "feed" => feed(words),
-        "close" => Ok(Command::Close),
-        _ => Err(LineFault::UnknownCommand { word: name }),
-    }
+    let command = match name {
+        "plan" => Command::Plan(plan(words)?),
+        "window" => Command::Plan(window(words)?),
+        "session" => Command::Plan(session(words)?),
+        "board" => Command::NewBoard(board(words)?),
+        "add" => Command::Board(add(words)?),
+        "take" => Command::Board(take(words)?),
+        "levels" => Command::Board(levels(words)?),
+        "listed" => Command::Day(DayCommand::Listed),
+        "open" => Command::Day(open(words)?),
+        "limits" => Command::Day(limits(words)?),
+        "feed" => Command::Day(feed(words)?),
+        "close" => Command::Day(DayCommand::Close),
+        _ => return Err(LineFault::UnknownCommand { word: name }),
+    };
+    Ok(command)
 }
 
 // Which of the two plans is asked for.
@@ -73,9 +67,7 @@ enum BoardKind {
     Grid,
 }
 
-fn plan<'a>(words: &mut Words<'a>) -> Result<Command<'a>, LineFault<'a>>
-    ensures answer { NoEntry result }
-{
+fn plan<'a>(words: &mut Words<'a>) -> Result<PlanCommand, LineFault<'a>> {
     match words.choice(
         ("fixed", PlanKind::Fixed),
         ("announced", PlanKind::Announced),
@@ -83,21 +75,19 @@ fn plan<'a>(words: &mut Words<'a>) -> Result<Command<'a>, LineFault<'a>>
         PlanKind::Fixed => {
             let days = words.figure("DAYS")?;
             let group = words.figure("GROUP")?;
-            Ok(Command::FixedPlan { days, group })
+            Ok(PlanCommand::Fixed { days, group })
         }
-        PlanKind::Announced => Ok(Command::AnnouncedPlan),
+        PlanKind::Announced => Ok(PlanCommand::Announced),
     }
 }
 
-fn window<'a>(words: &mut Words<'a>) -> Result<Command<'a>, LineFault<'a>>
-    ensures answer { NoEntry result }
-{
+fn window<'a>(words: &mut Words<'a>) -> Result<PlanCommand, LineFault<'a>> {
     let start = words.figure("START")?;
     let end = words.figure("END")?;
     let session = words.code("SESSION")?;
     let bounding = words.choice(("free", Bounding::Free), ("bounded", Bounding::Bounded))?;
     let k = words.figure("K")?;
-    Ok(Command::Window(Announcement {
+    Ok(PlanCommand::Window(Announcement {
         start,
         end,
         session,
@@ -106,74 +96,58 @@ fn window<'a>(words: &mut Words<'a>) -> Result<Command<'a>, LineFault<'a>>
     }))
 }
 
-fn session<'a>(words: &mut Words<'a>) -> Result<Command<'a>, LineFault<'a>>
-    ensures answer { NoEntry result }
-{
+fn session<'a>(words: &mut Words<'a>) -> Result<PlanCommand, LineFault<'a>> {
     let time = words.figure("TIME")?;
-    Ok(Command::Session { time })
+    Ok(PlanCommand::Session { time })
 }
 
-fn board<'a>(words: &mut Words<'a>) -> Result<Command<'a>, LineFault<'a>>
-    ensures answer { NoEntry result }
-{
+fn board<'a>(words: &mut Words<'a>) -> Result<BoardShape, LineFault<'a>> {
     match words.choice(("ladder", BoardKind::Ladder), ("grid", BoardKind::Grid))? {
         BoardKind::Ladder => {
             let count = words.figure("COUNT")?;
-            Ok(Command::Ladder { count })
+            Ok(BoardShape::Ladder { count })
         }
         BoardKind::Grid => {
             let start = words.figure("START")?;
-            Ok(Command::Grid { start })
+            Ok(BoardShape::Grid { start })
         }
     }
 }
 
-fn add<'a>(words: &mut Words<'a>) -> Result<Command<'a>, LineFault<'a>>
-    ensures answer { NoEntry result }
-{
+fn add<'a>(words: &mut Words<'a>) -> Result<BoardCommand, LineFault<'a>> {
     let side = words.side()?;
     let price = words.figure("PRICE")?;
     let time = words.figure("TIME")?;
-    Ok(Command::Add { side, price, time })
+    Ok(BoardCommand::Add { side, price, time })
 }
 
-fn take<'a>(words: &mut Words<'a>) -> Result<Command<'a>, LineFault<'a>>
-    ensures answer { NoEntry result }
-{
+fn take<'a>(words: &mut Words<'a>) -> Result<BoardCommand, LineFault<'a>> {
     let side = words.side()?;
     let price = words.figure("PRICE")?;
-    Ok(Command::Take { side, price })
+    Ok(BoardCommand::Take { side, price })
 }
 
-fn open<'a>(words: &mut Words<'a>) -> Result<Command<'a>, LineFault<'a>>
-    ensures answer { NoEntry result }
-{
+fn open<'a>(words: &mut Words<'a>) -> Result<DayCommand<'a>, LineFault<'a>> {
     let time = words.figure("TIME")?;
     let params = words.params()?;
-    Ok(Command::Open { time, params })
+    Ok(DayCommand::Open { time, params })
 }
 
-fn limits<'a>(words: &mut Words<'a>) -> Result<Command<'a>, LineFault<'a>>
-    ensures answer { NoEntry result }
-{
+fn limits<'a>(words: &mut Words<'a>) -> Result<DayCommand<'a>, LineFault<'a>> {
     let which = words.choice(
         ("static", LimitKind::Static),
         ("dynamic", LimitKind::Dynamic),
     )?;
     let time = words.figure("TIME")?;
-    Ok(Command::Limits { which, time })
+    Ok(DayCommand::Limits { which, time })
 }
 
-fn levels<'a>(words: &mut Words<'a>) -> Result<Command<'a>, LineFault<'a>>
-    ensures answer { NoEntry result }
-{
+fn levels<'a>(words: &mut Words<'a>) -> Result<BoardCommand, LineFault<'a>> {
     let side = words.side()?;
-    Ok(Command::Levels { side })
+    Ok(BoardCommand::Levels { side })
 }
 
-fn feed<'a>(words: &mut Words<'a>) -> Result<Command<'a>, LineFault<'a>>
-    ensures answer { NoEntry result }
-{
+fn feed<'a>(words: &mut Words<'a>) -> Result<DayCommand<'a>, LineFault<'a>> {
     let file = words.next().ok_or(LineFault::Missing { name: "FILE" })?;
-    Ok(Command::Feed { file })
+    Ok(DayCommand::Feed { file })
 }
