@@ -8,9 +8,10 @@ use plan::{Announcement, Plan, Slot, Window};
 use script::command::PlanCommand;
 use std::alloc::{AllocError, Global};
 
-/// The plan that a script has: a fixed one, or the windows announced so far.
+/// The plan that a script has: none yet, a fixed one, or the windows announced so far.
 #[derive(Drop)]
 pub(crate) enum Timetable {
+    Empty,
     Fixed(FixedPlan),
     Announced(Vec<Announcement>),
 }
@@ -28,51 +29,48 @@ fn announced<'a>(
     plan
 }
 
-// Makes a fixed plan. A refused one keeps the plan that there was.
-fn fixed(timetable: &mut Option<Timetable>, days: u32, group: u32) -> Result<(), Refusal> {
-    let plan = FixedPlan::new(days, group)?;
-    *timetable = Some(Timetable::Fixed(plan));
-    Ok(())
-}
-
-// Announces a window.
-fn window(timetable: &mut Option<Timetable>, asked: Announcement) -> Result<Answer, Halt> {
-    let Some(Timetable::Announced(windows)) = timetable else {
-        return Err(OutOfPlace::NoAnnouncedPlan.into());
-    };
-    let mut records = [Window::default(); MOST_WINDOWS];
-    let outcome = announced(&mut records, windows.as_slice()).window(asked);
-    if outcome.is_ok() {
-        windows.push(asked).map_err(AllocError::from)?;
+impl Timetable {
+    // Makes a fixed plan. A refused one keeps the plan that there was.
+    fn fixed(&mut self, days: u32, group: u32) -> Result<(), Refusal> {
+        *self = Timetable::Fixed(FixedPlan::new(days, group)?);
+        Ok(())
     }
-    Ok(Answer::Done(outcome))
-}
 
-// The slot at a time.
-fn slot(timetable: &Option<Timetable>, time: u32) -> Result<Slot, Halt> {
-    match timetable {
-        None => Err(OutOfPlace::NoPlan.into()),
-        Some(Timetable::Fixed(plan)) => Ok(plan.slot(time)),
-        Some(Timetable::Announced(windows)) => {
-            let mut records = [Window::default(); MOST_WINDOWS];
-            Ok(announced(&mut records, windows.as_slice()).slot(time))
+    // Announces a window.
+    fn window(&mut self, asked: Announcement) -> Result<Answer, Halt> {
+        let Timetable::Announced(windows) = self else {
+            return Err(OutOfPlace::NoAnnouncedPlan.into());
+        };
+        let mut records = [Window::default(); MOST_WINDOWS];
+        let outcome = announced(&mut records, windows.as_slice()).window(asked);
+        if outcome.is_ok() {
+            windows.push(asked).map_err(AllocError::from)?;
+        }
+        Ok(Answer::Done(outcome))
+    }
+
+    // The slot at a time.
+    fn slot(&self, time: u32) -> Result<Slot, Halt> {
+        match self {
+            Timetable::Empty => Err(OutOfPlace::NoPlan.into()),
+            Timetable::Fixed(plan) => Ok(plan.slot(time)),
+            Timetable::Announced(windows) => {
+                let mut records = [Window::default(); MOST_WINDOWS];
+                Ok(announced(&mut records, windows.as_slice()).slot(time))
+            }
         }
     }
-}
 
-/// What a command for plans is answered.
-pub(crate) fn plan_answer(
-    heap: Global,
-    timetable: &mut Option<Timetable>,
-    command: PlanCommand,
-) -> Result<Answer, Halt> {
-    match command {
-        PlanCommand::Fixed { days, group } => Ok(Answer::Done(fixed(timetable, days, group))),
-        PlanCommand::Announced => {
-            *timetable = Some(Timetable::Announced(Vec::new(heap)));
-            Ok(Answer::Done(Ok(())))
+    /// What a command for plans is answered.
+    pub(crate) fn answer(&mut self, heap: Global, command: PlanCommand) -> Result<Answer, Halt> {
+        match command {
+            PlanCommand::Fixed { days, group } => Ok(Answer::Done(self.fixed(days, group))),
+            PlanCommand::Announced => {
+                *self = Timetable::Announced(Vec::new(heap));
+                Ok(Answer::Done(Ok(())))
+            }
+            PlanCommand::Window(asked) => self.window(asked),
+            PlanCommand::Session { time } => Ok(Answer::Slot(self.slot(time)?)),
         }
-        PlanCommand::Window(asked) => window(timetable, asked),
-        PlanCommand::Session { time } => Ok(Answer::Slot(slot(timetable, time)?)),
     }
 }

@@ -3,7 +3,7 @@ ghost use Rattle.std.specs.Prelude.{◌<◌, length, IfOk, OnSome};
 ghost use Rattle.script_words.specs.Lines.{to_come};
 
 use crate::boards::{board_answer, new_board};
-use crate::plans::{Timetable, plan_answer};
+use crate::plans::Timetable;
 use crate::report::{Answer, Halt, NewBoard, OutOfPlace, Report, Stop};
 use board::Level;
 use grid::Grid;
@@ -21,7 +21,7 @@ struct Desk<'a> {
     lines: Lines<'a>,
     line: usize,
     text: String,
-    timetable: Option<Timetable>,
+    timetable: Timetable,
 }
 
 impl<'a> Desk<'a> {
@@ -51,7 +51,7 @@ impl<'a> Desk<'a> {
     {
         while let Some(command) = self.command()? {
             let answer = match command {
-                Command::Plan(plan) => plan_answer(self.heap, &mut self.timetable, plan)?,
+                Command::Plan(plan) => self.timetable.answer(self.heap, plan)?,
                 Command::NewBoard(shape) => new_board(shape).into(),
                 Command::Board(board) => on_board(board)?,
                 Command::Day(DayCommand::Listed | DayCommand::Open { .. }) => {
@@ -117,7 +117,7 @@ pub fn run_script(heap: Global, script: &str) -> Result<Report, AllocError> {
         lines: Lines::new(script),
         line: 0,
         text: String::new(heap),
-        timetable: None,
+        timetable: Timetable::Empty,
     };
     let outcome = desk.run();
     let why = match outcome {
