@@ -2,7 +2,7 @@
 ghost use Rattle.std.specs.Prelude.{◌≡◌};
 ghost use Rattle.day.specs.Boards.{board_after};
 
-use crate::report::{Answer, Halt, NewBoard};
+use crate::report::{Answer, GridStart, Halt, LadderCount, NewBoard};
 use board::standing::Levels;
 use board::{Board, Level};
 use entry::Side;
@@ -18,11 +18,11 @@ pub(crate) fn new_board(shape: BoardShape) -> Result<NewBoard, Refusal> {
         BoardShape::Ladder { count } => {
             let count = count as usize;
             Ladder::test(count, count)?;
-            Ok(NewBoard::Ladder(count))
+            Ok(NewBoard::Ladder(LadderCount { count }))
         }
         BoardShape::Grid { start } => {
             Grid::test(start)?;
-            Ok(NewBoard::Grid(start))
+            Ok(NewBoard::Grid(GridStart { start }))
         }
     }
 }

@@ -1,5 +1,7 @@
 // What a script printed, and what stopped it.
-ghost use Rattle.std.specs.Prelude.{Some};
+ghost use Rattle.std.specs.Prelude.{◌≡◌, Some, Ok};
+ghost use Rattle.grid.specs.Start.{start_answer};
+ghost use Rattle.ladder.specs.Counts.{counts_answer};
 ghost use Rattle.day.specs.Stops.{stop_text};
 
 use entry::refusals::Refusal;
@@ -74,13 +76,27 @@ impl From<AllocError> for Halt {
     }
 }
 
-/// A board that a script asks for. Its first test was passed.
+/// How many levels a ladder has on each side.
+#[derive(Clone, Copy, PartialEq, Eq, Debug)]
+pub(crate) struct LadderCount {
+    pub count: usize,
+    // It passed the first test.
+    ghost tested: { counts_answer count count ≡ Ok tt },
+}
+
+/// The price at which a grid starts.
+#[derive(Clone, Copy, PartialEq, Eq, Debug)]
+pub(crate) struct GridStart {
+    pub start: u32,
+    // It passed the first test.
+    ghost tested: { start_answer start ≡ Ok tt },
+}
+
+/// A board that a script asks for.
 #[derive(Clone, Copy, PartialEq, Eq, Debug)]
 pub(crate) enum NewBoard {
-    /// A ladder for so many levels on each side.
-    Ladder(usize),
-    /// A grid from a start.
-    Grid(u32),
+    Ladder(LadderCount),
+    Grid(GridStart),
 }
 
 /// What a command is answered with.

@@ -4,7 +4,9 @@ ghost use Rattle.script_words.specs.Lines.{to_come};
 
 use crate::boards::{board_answer, new_board};
 use crate::plans::Timetable;
-use crate::report::{Answer, Halt, NewBoard, OutOfPlace, Report, Stop};
+use crate::report::{
+    Answer, GridStart, Halt, LadderCount, NewBoard, OutOfPlace, Report, Stop,
+};
 use board::Level;
 use grid::Grid;
 use ladder::Ladder;
@@ -75,25 +77,19 @@ impl<'a> Desk<'a> {
         self.stretch(|_| Err(OutOfPlace::NoBoard.into()))
     }
 
-    // Carries out lines on a new board. The first test is made again: an enum's value carries no proof that it was passed.
+    // Carries out lines on a new board.
     fn on_board(&mut self, board: NewBoard) -> Result<Option<NewBoard>, Halt>
         ensures fewer { IfOk result (λ next. OnSome next (length (to_come self.new.lines) < length (to_come self.old.lines))) }
     {
         let heap = self.heap;
         match board {
-            NewBoard::Ladder(count) => {
+            NewBoard::Ladder(LadderCount { count }) => {
                 let mut buys = vec![in heap; BuyLevel::default(); count]?;
                 let mut sells = vec![in heap; SellLevel::default(); count]?;
-                if Ladder::test(buys.len(), sells.len()).is_err() {
-                    return self.without_board();
-                }
                 let mut ladder = Ladder::new(buys.as_mut_slice(), sells.as_mut_slice());
                 self.stretch(|command| board_answer(heap, &mut ladder, command))
             }
-            NewBoard::Grid(start) => {
-                if Grid::test(start).is_err() {
-                    return self.without_board();
-                }
+            NewBoard::Grid(GridStart { start }) => {
                 let mut grid = Grid::new(start);
                 self.stretch(|command| board_answer(heap, &mut grid, command))
             }
