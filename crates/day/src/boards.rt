@@ -38,8 +38,7 @@ fn levels<B: Board>(heap: Global, board: &B, side: Side) -> Result<String, Alloc
         if !text.is_empty() {
             text.push_str(" ")?;
         }
-        let level = format!(in heap; "{price}:{orders}:{since}")?;
-        text.push_str(level.as_str())?;
+        write!(text, "{price}:{orders}:{since}")?;
     }
     if text.is_empty() {
         text.push_str("none")?;

@@ -61,8 +61,7 @@ impl<'a> Desk<'a> {
                 }
                 Command::Entry(_) | Command::Day(_) => return Err(OutOfPlace::NoOpenDay.into()),
             };
-            let line = format!(in self.heap; "{command} -> {answer}\n")?;
-            self.text.push_str(line.as_str())?;
+            writeln!(self.text, "{command} -> {answer}")?;
             if let Answer::Board(board) = answer {
                 return Ok(Some(board));
             }
