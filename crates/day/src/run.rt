@@ -16,7 +16,7 @@ use script_parse::parse::parse;
 use script_words::lines::Lines;
 use std::alloc::{AllocError, Global};
 
-// A script on its way: the lines that are left, the number of the last one taken, what was printed, and the plan.
+// A script that is being carried out: the lines that are left, the number of the last one taken, what was printed, and the plan.
 #[derive(Drop)]
 struct Desk<'a> {
     heap: Global,
@@ -32,7 +32,7 @@ impl<'a> Desk<'a> {
         ensures fewer { IfOk result (λ found. OnSome found (length (to_come self.new.lines) < length (to_come self.old.lines))) }
     {
         while let Some(line) = self.lines.next() {
-            // Counted here, since the number outlives each loop over the lines.
+            // Counted here and not by `enumerate`, since the number is kept when the function returns.
             self.line = self.line.saturating_add(1);
             match parse(line) {
                 Ok(Some(command)) => return Ok(Some(command)),
