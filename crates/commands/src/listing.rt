@@ -36,8 +36,7 @@ pub fn lines(heap: Global, entries: &[Entry]) -> Result<String, AllocError>
 {
     let mut text = String::new(heap);
     for entry in entries {
-        let line = format!(in heap; "{}\n", Plain(*entry))?;
-        text.push_str(line.as_str())?;
+        writeln!(text, "{}", Plain(*entry))?;
     }
     Ok(text)
 }
