@@ -18,7 +18,7 @@ pub struct Words<'a> {
 fn is_blank(byte: u8) -> bool
     ensures answer { result ≡ is_blank byte }
 {
-    byte == b' ' || byte == b'\t' || byte == b'\r'
+    matches!(byte, b' ' | b'\t' | b'\r')
 }
 
 /// Where the first word of a text starts, if there is one.
