@@ -59,10 +59,8 @@ impl<'a> Words<'a> {
     pub fn new(line: &'a str) -> Words<'a>
         ensures made { left result ≡ words_of (uncommented line.now) }
     {
-        match line.split_once('#') {
-            Some((rest, _)) => Words { rest },
-            None => Words { rest: line },
-        }
+        let (rest, _) = line.split_once('#').unwrap_or((line, ""));
+        Words { rest }
     }
 
     /// Takes the next word, which has to be a figure of at most `most`.
