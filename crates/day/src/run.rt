@@ -4,9 +4,7 @@ ghost use Rattle.script_words.specs.Lines.{to_come};
 
 use crate::boards::{board_answer, new_board};
 use crate::plans::Timetable;
-use crate::report::{
-    Answer, GridStart, Halt, LadderCount, NewBoard, OutOfPlace, Report, Stop,
-};
+use crate::report::{Answer, GridStart, Halt, LadderCount, NewBoard, OutOfPlace, Report, Stop};
 use board::Level;
 use grid::Grid;
 use ladder::Ladder;

@@ -3,6 +3,8 @@ ghost use Rattle.std.specs.Prelude.{◌≡◌, [], ◌∷◌, MatchOption};
 ghost use Rattle.std.specs.Iterator.{YieldsFirstRef, item_count};
 ghost use Rattle.script_words.specs.Lines.{lines_of, to_come};
 
+// An iterator of its own: `split_terminator` says what its whole run gives, and where a reader stops at a line, the lines that are
+// left are needed.
 /// What is left of a script.
 #[derive(Clone, Copy)]
 pub struct Lines<'a> {
