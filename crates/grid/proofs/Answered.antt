@@ -13,8 +13,8 @@ use Rattle.entry.specs.Sides.{of_side}
 use Rattle.grid.specs.declared.cells.Cell.{Cell}
 use Rattle.grid.specs.declared.Grid.{Grid}
 use Rattle.grid.specs.Holding.{grid_book, cells_of}
-use Rattle.grid.specs.Ranks.{no_order, cell_at, price_at, ranks_to, in_range, seen, levels, more, less, more_answer, less_answer, first_of}
-use Rattle.grid.proofs.Levels.{absent, at_rank, raise_rank, lower_rank, room-left, best_rank, best_none, next_rank}
+use Rattle.grid.specs.Ranks.{no_order, cell_at, price_at, ranks_to, in_range, seen, levels, level_in, holding, first_of}
+use Rattle.grid.proofs.Levels.{raised, lowered, absent, at_rank, raise_rank, lower_rank, room-left, best_rank, best_none, next_rank}
 
 -- an empty side has no level
 pub none-stand : (s : Side) (start k n : ℕ) → levels s start k (replicate n no_order) ≡ []
@@ -89,20 +89,20 @@ add-answer {s} {g} {p} {i} o =
     let x = leb g.start p && (leb p (g.start + 255) && ltb (length (levels_of (grid_book g) s)) 256) in
     ap (λ (v : Option Level). join_answer v x) (at_spot o) ∙ settled (cell_at (cells_of s g) i) p x (place o)
 
--- the cell gives no other cell
-pub add_refused : {s : Side} {g : Grid} {p i : ℕ} {F : BoardFault} (t : ℕ) → Spot s g p i → more_answer t (cell_at (cells_of s g) i) ≡ Err F → Added (grid_book g) s p t (Err F) (grid_book g)
+-- the level there is full
+pub add_refused : {s : Side} {g : Grid} {p i : ℕ} {F : BoardFault} (t : ℕ) → Spot s g p i → raised p t (seen p (cell_at (cells_of s g) i)) ≡ Err F → Added (grid_book g) s p t (Err F) (grid_book g)
 add_refused {s} {g} {p} {i} {F} t o w =
     let e : add_answer (grid_book g) s p ≡ Err F = add-answer o ∙ grind (arith, nat_tests) in
     record { answer = sym e; after = kept _ _ _ e }
 
--- the cell c is stored
-pub add_stored : {s : Side} {g : Grid} {p i : ℕ} (t : ℕ) (c : Cell) (b : Book) → Spot s g p i → more_answer t (cell_at (cells_of s g) i) ≡ Ok c → b ≡ with_levels (grid_book g) s (levels s g.start 0 (set (cells_of s g) i c)) → Added (grid_book g) s p t (Ok tt) b
-add_stored {s} {g} {p} {i} t c b o w h =
+-- the cell of the level x is stored
+pub add_stored : {s : Side} {g : Grid} {p i : ℕ} (t : ℕ) (x : Level) (b : Book) → Spot s g p i → raised p t (seen p (cell_at (cells_of s g) i)) ≡ Ok x → b ≡ with_levels (grid_book g) s (levels s g.start 0 (set (cells_of s g) i (holding x))) → Added (grid_book g) s p t (Ok tt) b
+add_stored {s} {g} {p} {i} t x b o w h =
     let l = size_of s g in
-    let k : more t (cell_at (cells_of s g) i) ≡ c = grind (arith, nat_tests) in
     let e : add_answer (grid_book g) s p ≡ Ok tt = add-answer o ∙ grind (arith, nat_tests) in
-    let a = raise_rank s g.start t i 0 i (cells_of s g) (omega arith) (omega arith) (omega arith) in
-    let r : levels s g.start 0 (set (cells_of s g) i c) ≡ added s p t (levels_of (grid_book g) s) = let u = side_is s g in let v = o.here in cc in
+    let v : raised (price_at s g.start i) t (seen (price_at s g.start i) (cell_at (cells_of s g) i)) ≡ Ok x = rw o.here at w in
+    let a = raise_rank s g.start t i 0 i (cells_of s g) x (omega arith) (omega arith) (omega arith) v in
+    let r : levels s g.start 0 (set (cells_of s g) i (holding x)) ≡ added s p t (levels_of (grid_book g) s) = let u = side_is s g in let m = o.here in cc in
     record { answer = sym e; after = h ∙ (ap (with_levels (grid_book g) s) r ∙ done _ (grid_book g) (with_levels (grid_book g) s (added s p t (levels_of (grid_book g) s))) e) }
 
 -- what take owes
@@ -116,19 +116,20 @@ take_off s g p o = let e = ap leave_answer (at_off s g p o) in record { answer =
 take-answer : {s : Side} {g : Grid} {p i : ℕ} → Spot s g p i → take_answer (grid_book g) s p ≡ cond (eqb (cell_at (cells_of s g) i).orders 0) (Err NothingThere) (Ok tt)
 take-answer o = ap leave_answer (at_spot o) ∙ grind (arith, nat_tests)
 
-pub take_refused : {s : Side} {g : Grid} {p i : ℕ} {F : BoardFault} → Spot s g p i → less_answer (cell_at (cells_of s g) i) ≡ Err F → Taken (grid_book g) s p (Err F) (grid_book g)
-take_refused {s} {g} {p} {i} {F} o w =
-    let e : take_answer (grid_book g) s p ≡ Err F = take-answer o ∙ grind (arith, nat_tests) in
+pub take_refused : {s : Side} {g : Grid} {p i : ℕ} → Spot s g p i → seen p (cell_at (cells_of s g) i) ≡ None → Taken (grid_book g) s p (Err NothingThere) (grid_book g)
+take_refused {s} {g} {p} {i} o w =
+    let e : take_answer (grid_book g) s p ≡ Err NothingThere = take-answer o ∙ grind (arith, nat_tests) in
     record { answer = sym e; after = kept _ _ _ e }
 
-pub take_stored : {s : Side} {g : Grid} {p i : ℕ} (c : Cell) (b : Book) → Spot s g p i → less_answer (cell_at (cells_of s g) i) ≡ Ok c → b ≡ with_levels (grid_book g) s (levels s g.start 0 (set (cells_of s g) i c)) → Taken (grid_book g) s p (Ok tt) b
-take_stored {s} {g} {p} {i} c b o w h =
+pub take_stored : {s : Side} {g : Grid} {p i : ℕ} (x : Level) (c : Cell) (b : Book) → Spot s g p i → seen p (cell_at (cells_of s g) i) ≡ Some x → c ≡ lowered x → b ≡ with_levels (grid_book g) s (levels s g.start 0 (set (cells_of s g) i c)) → Taken (grid_book g) s p (Ok tt) b
+take_stored {s} {g} {p} {i} x c b o v w h =
     let n = size_of s g in
-    let k : less (cell_at (cells_of s g) i) ≡ c = grind (arith, nat_tests) in
     let z : 0 < (cell_at (cells_of s g) i).orders = grind (arith, nat_tests) in
+    let k : level_in p (cell_at (cells_of s g) i) ≡ x = grind (arith, nat_tests) in
     let e : take_answer (grid_book g) s p ≡ Ok tt = take-answer o ∙ grind (arith, nat_tests) in
     let a = lower_rank s g.start i 0 i (cells_of s g) (omega arith) (omega arith) (omega arith) z in
-    let r : levels s g.start 0 (set (cells_of s g) i c) ≡ taken p (levels_of (grid_book g) s) = let u = side_is s g in let v = o.here in cc in
+    let q : c ≡ lowered (level_in p (cell_at (cells_of s g) i)) = w ∙ ap lowered (sym k) in
+    let r : levels s g.start 0 (set (cells_of s g) i c) ≡ taken p (levels_of (grid_book g) s) = let u = side_is s g in let m = o.here in cc in
     record { answer = sym e; after = h ∙ (ap (with_levels (grid_book g) s) r ∙ done _ (grid_book g) (with_levels (grid_book g) s (taken p (levels_of (grid_book g) s))) e) }
 
 -- the best level from a rank on

@@ -1,11 +1,8 @@
 -- The prices of a side by rank, best first, and the levels that its cells hold.
-use Rattle.std.specs.Prelude.{◌≡◌, ℕ, zero, suc, ◌+◌, ◌-◌, ◌*◌, ◌^◌, ◌<◌, ◌≤◌, Bool, cond, ◌&&◌, List, [], ◌∷◌, drop, Some, None, Option, Ok, Err, Result, ◌==◌, nat_le, slice_index, slice_index_or}
+use Rattle.std.specs.Prelude.{◌≡◌, ℕ, zero, suc, ◌+◌, ◌-◌, ◌*◌, ◌^◌, ◌<◌, ◌≤◌, Bool, cond, ◌&&◌, List, [], ◌∷◌, drop, Some, None, Option, ◌==◌, nat_le, slice_index, slice_index_or}
 use Rattle.entry.specs.declared.Side.{Side}
 use Rattle.entry.specs.declared.Side.TheVariants.{Buy, Sell}
 use Rattle.board.specs.declared.levels.Level.{Level}
-use Rattle.board.specs.declared.faults.BoardFault.{BoardFault}
-use Rattle.board.specs.declared.faults.BoardFault.TheVariants.{LevelFull, NothingThere}
-use Rattle.board.specs.Levels.{most_orders}
 use Rattle.board.specs.Book.{Book}
 use Rattle.grid.specs.declared.cells.Cell.{Cell}
 
@@ -37,6 +34,10 @@ level_in p c = record { price = p; orders = c.orders; since = c.since }
 abbrev pub seen : ℕ → Cell → Option Level
 seen p c = cond (c.orders == 0) None (Some (level_in p c))
 
+-- the cell that holds a level
+abbrev pub holding : Level → Cell
+holding x = record { orders = x.orders; since = x.since }
+
 -- the levels that the cells hold, where the first cell has rank k
 abbrev pub levels : Side → ℕ → ℕ → List Cell → List Level
 levels s start k [] = []
@@ -47,20 +48,6 @@ levels s start k (c ∷ cs) =
 abbrev pub book_over : ℕ → List Cell → List Cell → Book
 book_over start bids asks =
     record { low = start; high = start + 255; room = 256; buys = levels Buy start 0 bids; sells = levels Sell start 0 asks }
-
--- a cell with one order more, and with one less
-abbrev pub more : ℕ → Cell → Cell
-more t c = record { orders = c.orders + 1; since = cond (c.orders == 0) t c.since }
-
-abbrev pub less : Cell → Cell
-less c = record { orders = c.orders - 1; since = c.since }
-
--- what an order more or less is answered: the changed cell, or why there is none
-abbrev pub more_answer : ℕ → Cell → Result Cell BoardFault
-more_answer t c = cond (nat_le most_orders c.orders) (Err LevelFull) (Ok (more t c))
-
-abbrev pub less_answer : Cell → Result Cell BoardFault
-less_answer c = cond (c.orders == 0) (Err NothingThere) (Ok (less c))
 
 -- the first rank whose cell holds a level, where the first cell has rank k
 abbrev pub first_of : ℕ → List Cell → Option ℕ

@@ -125,15 +125,20 @@ impl Board for Grid {
 
     fn add(&mut self, side: Side, price: u32, time: u32) -> Result<(), BoardFault> {
         let rank = self.rank(side, price).ok_or(BoardFault::NoPlace)?;
-        let cell = self.get(side, rank).one_more(time)?;
-        self.put(side, rank, cell);
+        let level = match self.get(side, rank).level(price) {
+            Some(level) => level.one_more()?,
+            None => Level::new(price, time),
+        };
+        self.put(side, rank, Cell::from(level));
         Ok(())
     }
 
     fn take(&mut self, side: Side, price: u32) -> Result<(), BoardFault> {
         let rank = self.rank(side, price).ok_or(BoardFault::NothingThere)?;
-        let cell = self.get(side, rank).one_less()?;
-        self.put(side, rank, cell);
+        let cell = self.get(side, rank);
+        let level = cell.level(price).ok_or(BoardFault::NothingThere)?;
+        let left = level.one_less().map_or(Cell::default(), Cell::from);
+        self.put(side, rank, left);
         Ok(())
     }
 }

@@ -1,9 +1,8 @@
-// A cell of the grid, and what an order more or less makes of it.
+// A cell of the grid, and the level that it holds.
 ghost use Rattle.std.specs.Prelude.{◌≡◌, ◌==◌};
-ghost use Rattle.grid.specs.Ranks.{seen, more_answer, less_answer};
+ghost use Rattle.grid.specs.Ranks.{seen, holding};
 
-use board::levels::MOST_ORDERS;
-use board::{BoardFault, Level};
+use board::Level;
 
 // What a price of a side holds: no order, or the orders of a level and since when it stands.
 // The number 0 says that no level stands, since a board is fixed memory: an Option beside the two figures would make its 512 cells longer.
@@ -34,31 +33,16 @@ impl Cell {
             since: self.since,
         })
     }
+}
 
-    // One order more: the first one makes the level stand since that time. A full level refuses.
-    pub fn one_more(self, time: u32) -> Result<Cell, BoardFault>
-        ensures { result ≡ more_answer time self }
-    {
-        if self.orders >= MOST_ORDERS {
-            return Err(BoardFault::LevelFull);
-        }
-        let since = if self.is_empty() { time } else { self.since };
-        Ok(Cell {
-            orders: self.orders + 1,
-            since,
-        })
-    }
+impl From<Level> for Cell {
+    ghost from_gives = { λ level result. result ≡ holding level };
 
-    // One order less, where a level stands.
-    pub fn one_less(self) -> Result<Cell, BoardFault>
-        ensures { result ≡ less_answer self }
-    {
-        if self.is_empty() {
-            return Err(BoardFault::NothingThere);
+    // The cell of a price at which a level stands.
+    fn from(level: Level) -> Cell {
+        Cell {
+            orders: level.orders,
+            since: level.since,
         }
-        Ok(Cell {
-            orders: self.orders - 1,
-            ..self
-        })
     }
 }
