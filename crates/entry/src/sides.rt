@@ -1,6 +1,8 @@
 // What is said of a side, and a value for each side.
 ghost use Rattle.std.specs.Prelude.{◌≡◌};
 ghost use Rattle.entry.specs.Sides.{better, other_side, of_side, with_side};
+ghost use Rattle.std.specs.Borrow.{Lends, sem};
+ghost use Rattle.entry.specs.contracts.sides.Sides.{the_row};
 
 use crate::Side;
 
@@ -41,6 +43,17 @@ impl<T> Sides<T> {
         match side {
             Side::Buy => &self.buy,
             Side::Sell => &self.sell,
+        }
+    }
+
+    /// The value of a side, to be changed.
+    pub fn of_mut(&mut self, side: Side) -> &mut T
+        ensures* writes_back { sem 𝓛 (Lends (the_row T.row) T.row self.entry result (with_side self.old side)) }
+        ensures answer { result.now ≡ of_side self.old side }
+    {
+        match side {
+            Side::Buy => &mut self.buy,
+            Side::Sell => &mut self.sell,
         }
     }
 }
