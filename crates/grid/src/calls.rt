@@ -83,14 +83,11 @@ impl Grid {
         self.sides.of(side).get(rank)
     }
 
-    // Stores a cell of a side at a rank. It matches on the side, since `Sides::with` would copy all cells.
+    // Stores a cell of a side at a rank.
     fn put(&mut self, side: Side, rank: u8, cell: Cell)
         ensures { grid_book self.new ≡ with_levels (grid_book self.old) side (levels side self.old.start 0 (slice_set (cells_of side self.old) rank cell)) }
     {
-        match side {
-            Side::Buy => self.sides.buy.put(rank, cell),
-            Side::Sell => self.sides.sell.put(rank, cell),
-        }
+        self.sides.of_mut(side).put(rank, cell);
     }
 
     // The best level of a side from a rank on.
