@@ -31,6 +31,7 @@ impl Level {
     pub fn one_more(self) -> Result<Level, BoardFault>
         ensures answer { result ≡ more_answer self }
     {
+        // Not by `checked_add`, since the greatest number is a rule of its own, and no limit of the type.
         if self.orders >= MOST_ORDERS {
             return Err(BoardFault::LevelFull);
         }
