@@ -5,9 +5,9 @@ ghost use Rattle.grid.specs.Start.{start_answer};
 ghost use Rattle.grid.specs.Ranks.{cell_at, first_of, levels, price_at, ranks_to, in_range};
 ghost use Rattle.grid.specs.Holding.{grid_book, cells_of};
 
-use crate::Grid;
 use crate::cells::Cell;
 use crate::side_cells::SideCells;
+use crate::{Grid, PRICES};
 use board::{Board, BoardFault, Level};
 use entry::Side;
 use entry::refusals::Refusal;
@@ -61,7 +61,7 @@ impl Grid {
         ensures { result ≡ ranks_to side self.now.start price }
     {
         match side {
-            Side::Buy => (self.start + 256).saturating_sub(price),
+            Side::Buy => (self.start + PRICES as u32).saturating_sub(price),
             Side::Sell => price.saturating_sub(self.start - 1),
         }
     }

@@ -2,12 +2,13 @@
 ghost use Rattle.std.specs.Prelude.{◌≡◌, ◌*◌, ◌≤◌, ◌==◌, not, length, drop, position, replicate, slice_set};
 ghost use Rattle.grid.specs.Ranks.{no_order, cell_at, first_of, Marks, Limited};
 
+use crate::PRICES;
 use crate::cells::Cell;
 
 // A word of marks has a bit for each of 64 cells, the first cell at the highest bit.
 #[derive(Drop)]
 pub struct SideCells {
-    cells: [Cell; 256],
+    cells: [Cell; PRICES],
     marks: [u64; 4],
     ghost size: { length cells ≡ 256 },
     ghost words: { length marks ≡ 4 },
@@ -28,7 +29,7 @@ impl SideCells {
         ensures { result.cells ≡ replicate 256 no_order }
     {
         SideCells {
-            cells: [Cell::default(); 256],
+            cells: [Cell::default(); PRICES],
             marks: [0; 4],
         }
     }
