@@ -25,11 +25,7 @@ impl OpenDay {
         ensures after { state_of self.new (B.Board.book board.now) ≡ after_checked (P.Plan.hours plan.now) (state_of self.old (B.Board.book board.now)) (Entry.Clock time) }
     {
         self.on_time(time)?;
-        self.figures = OpenFigures {
-            time,
-            quotation: self.quotation_at(board, time),
-            ..self.figures
-        };
+        self.figures = self.figures.at(time, self.quotation_at(board, time));
         Ok(())
     }
 
@@ -46,10 +42,8 @@ impl OpenDay {
     {
         self.on_time(time)?;
         self.figures = OpenFigures {
-            time,
-            quotation: self.quotation_at(board, time),
             params,
-            ..self.figures
+            ..self.figures.at(time, self.quotation_at(board, time))
         };
         Ok(())
     }
@@ -68,10 +62,8 @@ impl OpenDay {
     {
         self.on_time(time)?;
         self.figures = OpenFigures {
-            time,
-            quotation: self.quotation_at(board, time),
             references: self.figures.references.with(session, price),
-            ..self.figures
+            ..self.figures.at(time, self.quotation_at(board, time))
         };
         Ok(())
     }
@@ -88,11 +80,7 @@ impl OpenDay {
         ensures after { state_of self.new (B.Board.book board.now) ≡ after_checked (P.Plan.hours plan.now) (state_of self.old (B.Board.book board.now)) (Entry.Ruling time price) }
     {
         self.on_time(time)?;
-        self.figures = OpenFigures {
-            time,
-            quotation: price,
-            ..self.figures
-        };
+        self.figures = self.figures.at(time, price);
         Ok(())
     }
 }

@@ -32,11 +32,7 @@ impl OpenDay {
         self.in_side(side, price, quotation, slot)?;
         kept_apart(board, side, price)?;
         board.add(side, price, time)?;
-        self.figures = OpenFigures {
-            time,
-            quotation,
-            ..self.figures
-        };
+        self.figures = self.figures.at(time, quotation);
         Ok(())
     }
 
@@ -58,10 +54,8 @@ impl OpenDay {
         let best = board.best(side);
         board.take(side, price)?;
         self.figures = OpenFigures {
-            time,
-            quotation,
             forerunners: self.forerunners_after(side, price, time, best),
-            ..self.figures
+            ..self.figures.at(time, quotation)
         };
         Ok(())
     }

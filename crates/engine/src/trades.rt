@@ -26,10 +26,8 @@ impl OpenDay {
         let quotation = self.quotation_at(board, time);
         self.in_dynamic(price, quotation, slot)?;
         self.figures = OpenFigures {
-            time,
-            quotation: price,
             marks: self.marks_after(price, slot),
-            ..self.figures
+            ..self.figures.at(time, price)
         };
         Ok(())
     }
@@ -49,11 +47,7 @@ impl OpenDay {
         let slot = self.listed(plan, time, price)?;
         let quotation = self.quotation_at(board, time);
         self.in_dynamic(price, quotation, slot)?;
-        self.figures = OpenFigures {
-            time,
-            quotation,
-            ..self.figures
-        };
+        self.figures = self.figures.at(time, quotation);
         Ok(())
     }
 
@@ -69,11 +63,7 @@ impl OpenDay {
         ensures after { state_of self.new (B.Board.book board.now) ≡ after_checked (P.Plan.hours plan.now) (state_of self.old (B.Board.book board.now)) (trade_of time 2 price) }
     {
         let _ = self.listed(plan, time, price)?;
-        self.figures = OpenFigures {
-            time,
-            quotation: self.quotation_at(board, time),
-            ..self.figures
-        };
+        self.figures = self.figures.at(time, self.quotation_at(board, time));
         Ok(())
     }
 

@@ -120,6 +120,18 @@ book_after b (Parameters t p) = b
 book_after b (Reference t s p) = b
 book_after b (Ruling t p) = b
 
+-- the figures of a day with another time and quotation
+abbrev pub figures_at : OpenFigures → ℕ → ℕ → OpenFigures
+figures_at d t q = record {
+  time = t;
+  quotation = q;
+  params = d.params;
+  references = d.references;
+  marks = d.marks;
+  days = d.days;
+  forerunners = d.forerunners;
+}
+
 -- the day and the board after an accepted entry
 abbrev pub moved : List Window → State → Entry → State
 moved hours w e = record {

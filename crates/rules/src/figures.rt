@@ -1,7 +1,7 @@
 // The figures that an open and a closed day hold, in plain numbers.
 ghost use Rattle.std.specs.Prelude.{◌≡◌};
 ghost use Rattle.rules.specs.Readings.{reference_of};
-ghost use Rattle.rules.specs.Effects.{with_reference};
+ghost use Rattle.rules.specs.Effects.{figures_at, with_reference};
 
 use entry::Params;
 use entry::sides::Sides;
@@ -92,6 +92,19 @@ pub struct OpenFigures {
     pub marks: Marks,
     pub days: DaysLeft,
     pub forerunners: Forerunners,
+}
+
+impl OpenFigures {
+    /// The figures at the time of an accepted entry, with the quotation that it leaves.
+    pub fn at(self, time: u32, quotation: u32) -> OpenFigures
+        ensures answer { result ≡ figures_at self time quotation }
+    {
+        OpenFigures {
+            time,
+            quotation,
+            ..self
+        }
+    }
 }
 
 /// What a closed day holds: the last quotation, or none before the first day, and the days left.
