@@ -1,7 +1,7 @@
 // The checks that an entry meets after its ranges, each with its refusal.
 ghost use Rattle.std.specs.Prelude.{◌≡◌, IfOk};
 ghost use Rattle.plan.specs.Hours.{slot_at};
-ghost use Rattle.rules.specs.Checks.{on_time, in_session, in_static, in_dynamic, in_side, apart, listed};
+ghost use Rattle.rules.specs.Checks.{on_time, in_session, in_static, in_dynamic, in_side, apart, listed, must, within};
 ghost use Rattle.engine.specs.Calls.{answer_of};
 
 use crate::OpenDay;
@@ -26,12 +26,11 @@ impl OpenDay {
     fn in_static(&self, price: u32) -> Result<(), Refusal>
         ensures { result ≡ in_static self.now.figures price }
     {
-        let (lower, upper) = static_limits(self.figures.params);
-        if (lower..=upper).contains(&(price as u64)) {
-            Ok(())
-        } else {
-            Err(Refusal::OutsideStatic)
-        }
+        held_to(
+            static_limits(self.figures.params),
+            price,
+            Refusal::OutsideStatic,
+        )
     }
 
     // Time, session and static limits, which orders and trades of every mode meet. The plan is asked once, and its slot handed on.
@@ -50,12 +49,11 @@ impl OpenDay {
     pub(crate) fn in_dynamic(&self, price: u32, quotation: u32, slot: Slot) -> Result<(), Refusal>
         ensures { result ≡ in_dynamic self.now.figures price quotation slot }
     {
-        let (lower, upper) = self.dynamic(quotation, slot);
-        if (lower..=upper).contains(&(price as u64)) {
-            Ok(())
-        } else {
-            Err(Refusal::OutsideDynamic)
-        }
+        held_to(
+            self.dynamic(quotation, slot),
+            price,
+            Refusal::OutsideDynamic,
+        )
     }
 
     // A buy is held to the upper dynamic limit, a sell to the lower one.
@@ -74,6 +72,18 @@ impl OpenDay {
             Side::Sell if (price as u64) < lower => Err(Refusal::OutsideDynamic),
             _ => Ok(()),
         }
+    }
+}
+
+// A price is held to a lower and an upper limit, and may be equal to either.
+fn held_to(limits: (u64, u64), price: u32, otherwise: Refusal) -> Result<(), Refusal>
+    ensures { result ≡ must (within price limits) otherwise }
+{
+    let (lower, upper) = limits;
+    if (lower..=upper).contains(&(price as u64)) {
+        Ok(())
+    } else {
+        Err(otherwise)
     }
 }
 
