@@ -13,6 +13,7 @@ use limits::static_limits;
 use plan::{Plan, Slot};
 
 impl OpenDay {
+    // The time is not below that of the last accepted entry, nor past the end of the day.
     pub(crate) fn on_time(&self, time: u32) -> Result<(), Refusal>
         ensures { result ≡ on_time self.now.figures time }
     {
@@ -23,6 +24,7 @@ impl OpenDay {
         }
     }
 
+    // An order or a trade of any mode is held to both static limits.
     fn in_static(&self, price: u32) -> Result<(), Refusal>
         ensures { result ≡ in_static self.now.figures price }
     {
@@ -87,6 +89,7 @@ fn held_to(limits: (u64, u64), price: u32, otherwise: Refusal) -> Result<(), Ref
     }
 }
 
+// The plan has a session, free or bounded, at the entry's time.
 fn in_session(slot: Slot) -> Result<(), Refusal>
     ensures { result ≡ in_session slot }
 {

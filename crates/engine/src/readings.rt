@@ -44,6 +44,7 @@ impl OpenDay {
         buy.or(sell).unwrap_or(self.figures.quotation)
     }
 
+    // What the limits read of a bounded window. In a free one, and where there is no session, the dynamic limits have no bounds.
     fn bounded_window(&self, slot: Slot) -> Option<BoundedWindow>
         ensures { result ≡ window_of self.now.figures slot }
     {
@@ -59,6 +60,7 @@ impl OpenDay {
         }
     }
 
+    // The dynamic limits around a quotation, lower and upper.
     pub(crate) fn dynamic(&self, quotation: u32, slot: Slot) -> (u64, u64)
         ensures { result ≡ dynamic_of self.now.figures quotation slot }
     {

@@ -115,7 +115,7 @@ pub struct ClosedFigures {
 }
 
 /// One line of a trail: 0 and the quotation after an accepted entry, or a refusal's number and 0.
-// A line has plain figures and no `Result`, since what reads a trail expects this form.
+// A line has plain figures and no `Result`: docs/ENTRIES.md, Run and trail, fixes it.
 #[derive(Clone, Copy, PartialEq, Eq, Debug)]
 pub struct TrailLine {
     pub answer: u8,
