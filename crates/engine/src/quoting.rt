@@ -16,7 +16,8 @@ impl OpenDay {
         ensures answer { result ≡ static_answer self.now.figures time }
         ensures promise { StaticTold self.now.figures time result }
     {
-        self.static_at(time)
+        self.on_time(time)?;
+        Ok(static_limits(self.figures.params))
     }
 
     /// The dynamic limits at a time, lower and upper. They use the quotation that an entry of that time would use.
@@ -28,26 +29,6 @@ impl OpenDay {
     ) -> Result<(u64, u64), Refusal>
         ensures answer { result ≡ dynamic_answer (P.Plan.hours plan.now) (state_of self.now (B.Board.book board.now)) time }
         ensures promise { DynamicTold (P.Plan.hours plan.now) (state_of self.now (B.Board.book board.now)) time result }
-    {
-        self.dynamic_at(board, plan, time)
-    }
-
-    // The static limits, by equality.
-    fn static_at(&self, time: u32) -> Result<(u64, u64), Refusal>
-        ensures { result ≡ static_answer self.now.figures time }
-    {
-        self.on_time(time)?;
-        Ok(static_limits(self.figures.params))
-    }
-
-    // The dynamic limits, by equality.
-    fn dynamic_at<B: Board, P: Plan>(
-        &self,
-        board: &B,
-        plan: &P,
-        time: u32,
-    ) -> Result<(u64, u64), Refusal>
-        ensures { result ≡ dynamic_answer (P.Plan.hours plan.now) (state_of self.now (B.Board.book board.now)) time }
     {
         self.on_time(time)?;
         let quotation = self.quotation_at(board, time);
