@@ -2,7 +2,7 @@
 use Rattle.std.proofs.Common.{◌≡◌, ◌≤◌, ◌++◌, length, take, drop}
 use Rattle.rules.specs.Runs.{final, lines}
 use Rattle.engine.specs.Calls.{state_of}
-use Rattle.engine.proofs.OpenDay.run_through.Given as goal
+use Rattle.engine.proofs.OpenDay.run.Given as goal
 
 abbrev pub invariant-loop-i : goal.invariant-loop-i
 invariant-loop-i g l =
