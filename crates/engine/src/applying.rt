@@ -80,7 +80,7 @@ impl OpenDay {
                 session,
                 price,
             } if is_price(price) => {
-                let session = Session::try_from(session).map_err(|_| Refusal::OutOfRange)?;
+                let session = Session::try_from(session)?;
                 self.set_reference(board, plan, time, session, price)
             }
             Entry::Ruling { time, price } if is_price(price) => {

@@ -2,7 +2,7 @@
 ghost use Rattle.std.specs.Prelude.{◌≡◌};
 ghost use Rattle.plan.specs.Sessions.{code_of, session_answer};
 
-use entry::codes::UnknownCode;
+use entry::refusals::Refusal;
 
 /// A session of a trading day, with its code.
 #[derive(Clone, Copy, PartialEq, Eq, Debug)]
@@ -23,25 +23,26 @@ impl From<Session> for u8 {
 }
 
 impl TryFrom<u8> for Session {
-    type Error = UnknownCode;
+    type Error = Refusal;
 
     ghost try_from_gives = { λ n result. result ≡ session_answer n };
 
-    /// The session with a code, if there is one.
-    fn try_from(code: u8) -> Result<Session, UnknownCode> {
+    /// The session with a code. One that no session has is out of range.
+    fn try_from(code: u8) -> Result<Session, Refusal> {
         match code {
             1 => Ok(Session::Morning),
             2 => Ok(Session::Main),
             3 => Ok(Session::Evening),
             4 => Ok(Session::Weekend),
-            _ => Err(UnknownCode(code)),
+            _ => Err(Refusal::OutOfRange),
         }
     }
 }
 
 /// What a plan answers at a time. The dynamic limits have no bounds in a free session, and bounds by K, in thousandths, in a
 /// bounded one.
-// One match tells the three answers apart. An Option of a struct with an optional K would be matched twice over.
+// A blank window needs a default with no session, and one match tells the three answers apart. An Option of a struct with an
+// optional K would be matched twice over.
 #[derive(Clone, Copy, PartialEq, Eq, Debug, Default)]
 pub enum Slot {
     #[default]

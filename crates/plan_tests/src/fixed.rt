@@ -1,6 +1,6 @@
 // Tests of the fixed plan, for trading days of one, two and ten calendar days and both groups.
 use crate::shared::edges;
-use entry::codes::UnknownCode;
+use entry::refusals::Refusal;
 use plan::fixed::FixedPlan;
 use plan::{Session, Slot};
 use std::process::Abort;
@@ -94,9 +94,9 @@ fn codes_of_sessions(rt: HostRuntime) {
                 assert!(rt; (1..=4).contains(&code));
                 assert_eq!(rt; u8::from(session), code);
             }
-            Err(unknown) => {
+            Err(refusal) => {
                 assert!(rt; code == 0 || code > 4);
-                assert_eq!(rt; unknown, UnknownCode(code));
+                assert_eq!(rt; refusal, Refusal::OutOfRange);
             }
         }
     }

@@ -31,7 +31,7 @@ fn checked(asked: Announcement) -> Result<Window, Refusal>
         bounding,
         k,
     } = asked;
-    let session = Session::try_from(session).map_err(|_| Refusal::OutOfRange)?;
+    let session = Session::try_from(session)?;
     if k > GREATEST_K || start >= end || end > LATEST_END {
         return Err(Refusal::OutOfRange);
     }
