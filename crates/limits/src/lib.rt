@@ -8,14 +8,15 @@ ghost use Rattle.limits.specs.Worked.{Worked};
 
 use entry::Params;
 
-/// The code of the main session.
+/// The code of the main session, as crate `plan` numbers the sessions.
 const MAIN: u8 = 2;
 
 /// The greatest K of the main session's bounds while days are left.
 const TIGHT: u32 = 100;
 
 /// A bounded window as the limits read it: its session's code, its K in thousandths, the session's LP, and the days left in
-/// each direction. The session is a code, since any figure may come: one of no session is judged like a session other than the main.
+/// each direction. A code that no session has is judged like that of a session other than the main one.
+// The session stays a code, since an enum of the sessions would ask more of callers: the limits answer for any figures.
 #[derive(Clone, Copy)]
 pub struct BoundedWindow {
     pub session: u8,
