@@ -43,28 +43,16 @@ impl References {
     }
 
     /// The references with one entered for a session.
-    pub fn with(self, session: Session, price: u32) -> References
+    pub fn with(mut self, session: Session, price: u32) -> References
         ensures answer { result ≡ with_reference self session price }
     {
-        let price = Some(price);
         match session {
-            Session::Morning => References {
-                morning: price,
-                ..self
-            },
-            Session::Main => References {
-                main: price,
-                ..self
-            },
-            Session::Evening => References {
-                evening: price,
-                ..self
-            },
-            Session::Weekend => References {
-                weekend: price,
-                ..self
-            },
+            Session::Morning => self.morning = Some(price),
+            Session::Main => self.main = Some(price),
+            Session::Evening => self.evening = Some(price),
+            Session::Weekend => self.weekend = Some(price),
         }
+        self
     }
 }
 
