@@ -6,7 +6,7 @@ ghost use Rattle.layout.specs.Reading.{taken, next, place_after, seen_after};
 use super::record::decode;
 use entry::Entry;
 use entry::kinds::Kind;
-use entry::refusals::Refusal;
+use entry::refusals::{Place, Refusal};
 use layout::kinds;
 
 // The longest feed that is taken, in bytes.
@@ -60,7 +60,11 @@ impl<'a> Reader<'a> {
         if self.at == self.feed.len() {
             return Ok(None);
         }
-        let entry = decode(&self.feed[self.at..], self.seen + 1, 8 * self.at)?;
+        let place = Place {
+            number: self.seen + 1,
+            bit: 8 * self.at,
+        };
+        let entry = decode(&self.feed[self.at..], place)?;
         self.at += kinds::size(Kind::of(entry));
         self.seen += 1;
         Ok(Some(entry))

@@ -1,5 +1,6 @@
 // One record: an entry's bits, written and read.
 ghost use Rattle.std.specs.Prelude.{◌≡◌, ℕ, ◌+◌, ◌*◌, ◌<◌, ◌≤◌, length, Ok, OnOk};
+ghost use Rattle.entry.specs.declared.refusals.Place.{Place};
 ghost use Rattle.feed.specs.Cursor.{widths_in, values_in};
 ghost use Rattle.layout.specs.Bits.{AreBytes, fields};
 ghost use Rattle.layout.specs.Layout.{code as code_of, widths as widths_of, side_of, entry_of, size as size_of};
@@ -9,7 +10,7 @@ ghost use Rattle.layout.specs.Writing.{answer_with, output_with, answer, output}
 use super::cursor::{Cursor, all_fit};
 use super::words::bits;
 use entry::kinds::Kind;
-use entry::refusals::Refusal;
+use entry::refusals::{Place, Refusal};
 use entry::{Entry, Params, Side};
 use layout::kinds;
 
@@ -66,29 +67,23 @@ fn entry_of(kind: Kind, src: &[u8]) -> Entry
     }
 }
 
-// The entry of the first record, which has this number and starts at this bit of its feed. The reader's proof learns from
-// `bytes` what the type says of its feed.
-pub(crate) fn decode(src: &[u8], number: usize, bit: usize) -> Result<Entry, Refusal>
+// The entry of the first record, which has this place in its feed. The reader's proof learns from `bytes` what the type
+// says of its feed.
+pub(crate) fn decode(src: &[u8], place: Place) -> Result<Entry, Refusal>
     requires some { 0 < length src.now }
-    requires short { bit ≤ 524288 }
-    ensures answer { result ≡ first_record src.now number bit }
+    requires short { place.bit ≤ 524288 }
+    ensures answer { result ≡ first_record src.now place }
     ensures bytes { AreBytes src.now }
 {
-    let kind = Kind::try_from(src[0] >> 4).map_err(|_| Refusal::UnknownKind {
-        record: number,
-        bit,
-    })?;
+    let kind = Kind::try_from(src[0] >> 4).map_err(|_| Refusal::UnknownKind(place))?;
     let size = kinds::size(kind);
-    let record = src.get(..size).ok_or(Refusal::FeedEnds {
-        record: number,
-        bit,
-    })?;
+    let record = src.get(..size).ok_or(Refusal::FeedEnds(place))?;
     let used = kinds::bits(kind);
     if bits(record, used, 8 * size - used) != 0 {
-        return Err(Refusal::SpareBitSet {
-            record: number,
-            bit: bit + used,
-        });
+        return Err(Refusal::SpareBitSet(Place {
+            bit: place.bit + used,
+            ..place
+        }));
     }
     Ok(entry_of(kind, record))
 }
@@ -122,7 +117,7 @@ fn write(out: &mut [u8], kind: Kind, fields: &[(u32, u32)]) -> Result<usize, Ref
 pub fn encode(entry: Entry, out: &mut [u8]) -> Result<usize, Refusal>
     ensures answer { result ≡ answer entry out.old }
     ensures after { out.new ≡ output entry out.old }
-    ensures back { OnOk result ((number bit : ℕ) → first_record out.new number bit ≡ Ok entry) }
+    ensures back { OnOk result ((place : Place) → first_record out.new place ≡ Ok entry) }
 {
     write_entry(entry, out)
 }

@@ -3,7 +3,7 @@
 
 #[cfg(test)]
 mod tests {
-    use entry::refusals::Refusal;
+    use entry::refusals::{Place, Refusal};
     use entry::{Entry, Params, Side};
     use feed::reader::Reader;
     use feed::record::encode;
@@ -169,10 +169,10 @@ mod tests {
                 let fault = if n == *start {
                     None
                 } else {
-                    Some(Refusal::FeedEnds {
-                        record: k + 1,
+                    Some(Refusal::FeedEnds(Place {
+                        number: k + 1,
                         bit: 8 * *start,
-                    })
+                    }))
                 };
                 gives(&rt, heap, &feed.as_slice()[..n], &entries[..k], fault)?;
             }
@@ -196,10 +196,10 @@ mod tests {
             *byte ^= 0x80 >> ((start + bit) % 8);
         }
         if bit >= BITS[record] {
-            let fault = Refusal::SpareBitSet {
-                record: record + 1,
+            let fault = Refusal::SpareBitSet(Place {
+                number: record + 1,
                 bit: start.saturating_add(BITS[record]),
-            };
+            });
             return gives(rt, heap, bytes.as_slice(), &entries[0..record], Some(fault));
         }
         let readings = read(heap, bytes.as_slice())?;
@@ -248,7 +248,8 @@ mod tests {
         assert!(rt; reader.next() == Ok(Some(Entry::Clock { time: 36_005_000 })));
         for _ in 0..3 {
             let told = reader.next().map_err(|why| (why.number(), why.place()));
-            assert!(rt; told == Err((15, Some((2, 40)))));
+            let place = Place { number: 2, bit: 40 };
+            assert!(rt; told == Err((15, Some(place))));
         }
     }
 

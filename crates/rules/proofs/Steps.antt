@@ -39,9 +39,9 @@ number_positive why.TrailShort = omega arith
 number_positive why.BoardNotEmpty = omega arith
 number_positive why.WindowOverlaps = omega arith
 number_positive why.TooManyWindows = omega arith
-number_positive (why.FeedEnds a b) = omega arith
-number_positive (why.UnknownKind a b) = omega arith
-number_positive (why.SpareBitSet a b) = omega arith
+number_positive (why.FeedEnds place) = omega arith
+number_positive (why.UnknownKind place) = omega arith
+number_positive (why.SpareBitSet place) = omega arith
 number_positive why.FeedTooLong = omega arith
 number_positive why.OutputShort = omega arith
 

@@ -6,7 +6,7 @@ ghost use Rattle.script.specs.Print.{entry_text, side_text, params_text, refusal
 use crate::command::{
     Announcement, BoardCommand, BoardShape, Bounding, Command, DayCommand, LimitKind, PlanCommand,
 };
-use entry::refusals::Refusal;
+use entry::refusals::{Place, Refusal};
 use entry::{Entry, Params, Side};
 use std::fmt;
 
@@ -73,11 +73,12 @@ impl fmt::Display for Plain<Refusal> {
     ghost output = { λ plain. Some (refusal_text plain.0) };
 
     fn fmt<W: fmt::Write>(&self, f: &mut fmt::Formatter<W>) -> fmt::Result {
-        let refusal = self.0;
-        let number = refusal.number();
-        match refusal.place() {
-            Some((record, bit)) => write!(f, "record {record} bit {bit} refused {number}"),
-            None => write!(f, "refused {number}"),
+        let refused = self.0.number();
+        match self.0.place() {
+            Some(Place { number, bit }) => {
+                write!(f, "record {number} bit {bit} refused {refused}")
+            }
+            None => write!(f, "refused {refused}"),
         }
     }
 }

@@ -1,4 +1,4 @@
-use Rattle.std.proofs.Common.{◌≡◌, ℕ, ◌+◌, ◌-◌, ◌/◌, ◌≤◌, true, List, length, get_or, take, MatchResult, is_ok, Some, None, Ok, Err, Option, Result, sym, ap, ◌∙◌, arith, eqb, ne_eqb}
+use Rattle.std.proofs.Common.{◌≡◌, ℕ, ◌-◌, ◌/◌, ◌≤◌, true, List, length, get_or, take, MatchResult, is_ok, Some, None, Ok, Err, Option, Result, sym, ap, ◌∙◌, arith, eqb, ne_eqb}
 use Rattle.std.proofs.lemmas.Bool.{cond-false}
 use Rattle.entry.specs.Kinds.{of_code, kind_from}
 use Rattle.entry.specs.declared.codes.UnknownCode.{UnknownCode}
@@ -8,6 +8,7 @@ use Rattle.entry.specs.declared.refusals.Refusal.TheVariants as why
 use Rattle.entry.specs.declared.Entry.{Entry}
 use Rattle.layout.specs.Bits.{field, fields}
 use Rattle.layout.specs.Layout.{widths, size, bits_for, spare_for, entry_of}
+use Rattle.layout.specs.Reading.{further}
 use Rattle.layout.proofs.Decoded.{record_there}
 use Rattle.layout.proofs.Lawful.{read_whole}
 use Rattle.feed.proofs.record.decode.Goals as goal
@@ -31,8 +32,8 @@ returns-then-bits-ne0-clause-answer c =
     let record-is : c.in_ok-record.record.now ≡ take (size kind) bs = there.2 ∙ ap (λ (n : ℕ). take n bs) whole in
     let spare : ℕ = field (take (size kind) bs) (bits_for (widths kind)) (spare_for (widths kind)) in
     let read : c.bits.result ≡ spare = cc in
-    ap (λ (b : ℕ). Err (why.SpareBitSet c.args.number (c.args.bit + b))) c.bits-used.ensures.answer
-    ∙ sym (record_there bs c.args.number c.args.bit kind known long ∙ cond-false (eqb spare 0) _ _ (ne_eqb spare 0 (λ z. c.if-bits-ne0.true (read ∙ z))))
+    ap (λ (b : ℕ). Err (why.SpareBitSet (further c.args.place b))) c.bits-used.ensures.answer
+    ∙ sym (record_there bs c.args.place kind known long ∙ cond-false (eqb spare 0) _ _ (ne_eqb spare 0 (λ z. c.if-bits-ne0.true (read ∙ z))))
 
 pub returns-clause-answer : goal.returns-clause-answer
 returns-clause-answer c =
@@ -45,4 +46,4 @@ returns-clause-answer c =
     let record-is : c.in_ok-record.record.now ≡ take (size kind) bs = there.2 ∙ ap (λ (n : ℕ). take n bs) whole in
     let zero : field (take (size kind) bs) (bits_for (widths kind)) (spare_for (widths kind)) ≡ 0 = cc in
     ap (λ (e : Entry). Ok e) (c.entry_of.ensures.answer ∙ ap (λ (x : List ℕ). entry_of kind (fields x 4 (widths kind))) record-is)
-    ∙ sym (read_whole bs c.args.number c.args.bit kind known long zero)
+    ∙ sym (read_whole bs c.args.place kind known long zero)
