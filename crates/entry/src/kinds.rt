@@ -17,11 +17,11 @@ pub enum Kind {
     Ruling,
 }
 
-impl Kind {
+impl From<Entry> for Kind {
+    ghost from_gives = { λ entry result. result ≡ kind_of entry };
+
     /// The kind of an entry.
-    pub fn of(entry: Entry) -> Kind
-        ensures answer { result ≡ kind_of entry }
-    {
+    fn from(entry: Entry) -> Kind {
         match entry {
             Entry::Clock { .. } => Kind::Clock,
             Entry::Post { .. } => Kind::Post,

@@ -5,7 +5,6 @@ ghost use Rattle.layout.specs.Reading.{taken, next, place_after, seen_after};
 
 use super::record::decode;
 use entry::Entry;
-use entry::kinds::Kind;
 use entry::refusals::{Place, Refusal};
 use layout::kinds;
 
@@ -65,7 +64,7 @@ impl<'a> Reader<'a> {
             bit: 8 * self.at,
         };
         let entry = decode(&self.feed[self.at..], place)?;
-        self.at += kinds::size(Kind::of(entry));
+        self.at += kinds::size(entry.into());
         self.seen += 1;
         Ok(Some(entry))
     }
