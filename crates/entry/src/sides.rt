@@ -60,15 +60,13 @@ impl<T> Sides<T> {
 
 impl<T: Copy> Sides<T> {
     /// The values with another one for a side.
-    pub fn with(self, side: Side, value: T) -> Self
+    pub fn with(mut self, side: Side, value: T) -> Self
         ensures answer { result ≡ with_side self side value }
     {
         match side {
-            Side::Buy => Sides { buy: value, ..self },
-            Side::Sell => Sides {
-                sell: value,
-                ..self
-            },
+            Side::Buy => self.buy = value,
+            Side::Sell => self.sell = value,
         }
+        self
     }
 }
