@@ -14,6 +14,9 @@ use entry::refusals::{Place, Refusal};
 use entry::{Entry, Params, Side};
 use layout::kinds;
 
+// The bytes of the longest record, that of parameters.
+pub(crate) const LONGEST_RECORD: usize = 20;
+
 // The side of a bit. Only a record has sides as bits, so this conversion stands here and not beside the type.
 fn side_of(bit: u32) -> Side
     ensures answer { result ≡ side_of bit }
@@ -67,8 +70,8 @@ fn entry_of(kind: Kind, src: &[u8]) -> Entry
     }
 }
 
-// The entry of the first record, which has this place in its feed. The reader's proof learns from `bytes` what the type
-// says of its feed.
+// The entry of the first record, which has this place in its feed. The clause `bytes` repeats what the type says, since
+// the reader's proof needs it.
 pub(crate) fn decode(src: &[u8], place: Place) -> Result<Entry, Refusal>
     requires some { 0 < length src.now }
     requires short { place.bit ≤ 524288 }

@@ -6,7 +6,7 @@ ghost use Rattle.layout.specs.Layout.{record_of, feed_of};
 ghost use Rattle.layout.specs.Laws.{ReadWhole, Holds};
 
 use super::reader::{LONGEST, Reader};
-use super::record::encode;
+use super::record::{LONGEST_RECORD, encode};
 use entry::Entry;
 use entry::refusals::Refusal;
 use std::alloc::{AllocError, Global};
@@ -74,7 +74,7 @@ pub fn append(feed: &mut Vec<u8>, entry: Entry) -> Result<(), WriteFault>
     ensures holds { OnOk result ((es : List Entry) → Holds feed.old.items es → Holds feed.new.items (es ++ (entry ∷ []))) }
 {
     // The record is written in fixed memory first, since `encode` serves callers that have no heap.
-    let mut record = [0; 20];
+    let mut record = [0; LONGEST_RECORD];
     let size = encode(entry, &mut record)?;
     if feed.len() > LONGEST - size {
         return Err(Refusal::FeedTooLong.into());
