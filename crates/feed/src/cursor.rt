@@ -12,11 +12,13 @@ pub struct Cursor {
     ghost part: { (held < 8) × (rest < 2 ^ held) },
 }
 
-// Whether no value is wider than its field. A field is its width and its value.
+// Whether no value is wider than its field. A field is a pair of its width and its value, and no struct with names, so
+// that a record's fields fit in one line of `write_entry`.
 pub fn all_fit(fields: &[(u32, u32)]) -> bool
     requires fields { narrow (widths_in fields.now) ≡ true }
     ensures answer { result ≡ fit (widths_in fields.now) (values_in fields.now) }
 {
+    // A loop: with `all` it stayed unproved that each shift is below 64 bits, and that the answer is `fit`.
     for &(width, value) in fields {
         if value as u64 >> width != 0 {
             return false;
