@@ -29,6 +29,6 @@ returns-clause-ran g c =
     let up : c.loop-i.i ≤ length es = omega arith in
     let fits = le-leb _ _ c.if-trail-entries.false in
     ran hours start es c.args.trail.now (Ok tt) here c.loop-i.trail
-      (rw fits)
-      (rw fits (final_end hours here start es c.loop-i.i up c.loop-i-test.false inv.1))
-      (rw fits (trail_end hours here start es c.loop-i.i up c.loop-i-test.false c.loop-i.trail c.args.trail.now inv.2 inv.3))
+    (rw fits)
+    (rw fits (final_end hours here start es c.loop-i.i up c.loop-i-test.false inv.1))
+    (rw fits (trail_end hours here start es c.loop-i.i up c.loop-i-test.false c.loop-i.trail c.args.trail.now inv.2 inv.3))
