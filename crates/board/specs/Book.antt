@@ -1,7 +1,8 @@
 -- What a board holds, and what it tells.
-use Rattle.std.specs.Prelude.{ℕ, Bool, true, false, cond, ◌&&◌, List, [], ◌∷◌, Some, None, Option, ◌==◌, nat_lt}
+use Rattle.std.specs.Prelude.{ℕ, Bool, true, false, cond, ◌&&◌, List, [], ◌∷◌, Some, None, Option, ◌==◌}
 use Rattle.entry.specs.declared.Side.{Side}
 use Rattle.entry.specs.declared.Side.TheVariants.{Buy, Sell}
+pub use Rattle.entry.specs.Sides.{better}
 use Rattle.board.specs.declared.levels.Level.{Level}
 
 -- the lowest and the highest price, the greatest number of levels a side, and the levels of each side, best first
@@ -24,11 +25,6 @@ levels_of b Sell = b.sells
 abbrev pub with_levels : Book → Side → List Level → Book
 with_levels b Buy ls = record { low = b.low; high = b.high; room = b.room; buys = ls; sells = b.sells }
 with_levels b Sell ls = record { low = b.low; high = b.high; room = b.room; buys = b.buys; sells = ls }
-
--- a price is better than another: higher for a buy, lower for a sell
-abbrev pub better : Side → ℕ → ℕ → Bool
-better Buy p q = nat_lt q p
-better Sell p q = nat_lt p q
 
 abbrev pub first : List Level → Option Level
 first [] = None

@@ -5,3 +5,4 @@ pub mod Book
 pub mod Calls
 pub mod Sound
 pub mod Listing
+pub mod Standing

@@ -1,6 +1,8 @@
-// Why a board refuses, each with its number.
+// Why a board refuses, each with the refusal that it is.
 ghost use Rattle.std.specs.Prelude.{◌≡◌};
-ghost use Rattle.board.specs.Faults.{number_of};
+ghost use Rattle.board.specs.Faults.{number_of, refusal_of};
+
+use entry::refusals::Refusal;
 
 /// Why a board refuses an order more or less.
 #[derive(Clone, Copy, PartialEq, Eq, Debug)]
@@ -13,15 +15,23 @@ pub enum BoardFault {
     NothingThere,
 }
 
+impl From<BoardFault> for Refusal {
+    ghost from_gives = { λ fault result. result ≡ refusal_of fault };
+
+    fn from(fault: BoardFault) -> Refusal {
+        match fault {
+            BoardFault::LevelFull => Refusal::LevelFull,
+            BoardFault::NoPlace => Refusal::NoPlace,
+            BoardFault::NothingThere => Refusal::NothingThere,
+        }
+    }
+}
+
 impl BoardFault {
     /// The number of the refusal.
     pub fn number(self) -> u8
         ensures answer { result ≡ number_of self }
     {
-        match self {
-            BoardFault::LevelFull => 7,
-            BoardFault::NoPlace => 8,
-            BoardFault::NothingThere => 9,
-        }
+        Refusal::from(self).number()
     }
 }

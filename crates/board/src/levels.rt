@@ -8,7 +8,7 @@ use crate::faults::BoardFault;
 pub const MOST_ORDERS: u16 = 65_535;
 
 /// What stands at a price of a side: how many orders, 1 to 65,535, and since when.
-#[derive(Clone, Copy, PartialEq, Eq, Debug)]
+#[derive(Clone, Copy, PartialEq, Eq, Debug, Default)]
 pub struct Level {
     pub price: u32,
     pub orders: u16,
@@ -31,13 +31,13 @@ impl Level {
     pub fn one_more(self) -> Result<Level, BoardFault>
         ensures answer { result ≡ more_answer self }
     {
+        // Not by `checked_add`, since the greatest number is a rule of its own, and no limit of the type.
         if self.orders >= MOST_ORDERS {
             return Err(BoardFault::LevelFull);
         }
         Ok(Level {
-            price: self.price,
             orders: self.orders + 1,
-            since: self.since,
+            ..self
         })
     }
 
@@ -49,9 +49,8 @@ impl Level {
             return None;
         }
         Some(Level {
-            price: self.price,
             orders: self.orders - 1,
-            since: self.since,
+            ..self
         })
     }
 }

@@ -4,6 +4,7 @@
 pub mod faults;
 pub mod levels;
 pub mod listing;
+pub mod standing;
 
 ghost use Rattle.std.specs.Prelude.{◌≡◌, ℕ, List};
 ghost use Rattle.board.specs.Book.{Book, best_of, level_at, next_after, levels_of, is_empty};
@@ -56,12 +57,6 @@ pub trait Board {
     fn is_empty(&self) -> bool
         ensures answer { result ≡ is_empty (book self.now) }
     {
-        match self.best(Side::Buy) {
-            Some(_) => false,
-            None => match self.best(Side::Sell) {
-                Some(_) => false,
-                None => true,
-            },
-        }
+        self.best(Side::Buy).is_none() && self.best(Side::Sell).is_none()
     }
 }

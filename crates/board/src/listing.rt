@@ -16,6 +16,7 @@ pub fn list_levels<B: Board>(board: &B, side: Side, out: &mut [Level]) -> usize
     board.vouch();
     let mut level = board.best(side);
     let room = out.len();
+    // By its index, since a proof knows no element that was written through `iter_mut`.
     for i in 0..room {
         let Some(standing) = level else {
             return i;

@@ -1,5 +1,5 @@
 -- The feed of a script, and what is wrong with a script that has none.
-use Rattle.std.specs.Prelude.{◌≡◌, ℕ, ◌+◌, ◌<◌, Bool, false, cond, List, [], ◌∷◌, ◌++◌, length, is_some, Some, None, codes, Option, ◌==◌}
+use Rattle.std.specs.Prelude.{◌≡◌, ℕ, ◌+◌, ◌<◌, Bool, false, cond, List, [], ◌∷◌, ◌++◌, length, is_some, Some, None, codes, decimal, Option, ◌==◌}
 use Rattle.entry.specs.declared.Entry.{Entry}
 use Rattle.entry.specs.Refusals.{number}
 use Rattle.feed.specs.declared.whole.WriteFault.{WriteFault}
@@ -11,6 +11,7 @@ use Rattle.script.specs.Faults.{fault_text}
 use Rattle.script_parse.specs.Entries.{prefixed, entries_of}
 use Rattle.script_parse.specs.Entries.{entry_of}
 use Rattle.commands.specs.declared.encoding.Flaw.{Flaw}
+use Rattle.commands.specs.declared.encoding.ScriptFault.{ScriptFault}
 use Rattle.commands.specs.declared.encoding.Flaw.TheVariants.{Unreadable, TooWide, TooLong, NoMemory}
 
 abbrev pub flaw_text : Flaw → List ℕ
@@ -18,6 +19,10 @@ flaw_text (Unreadable fault) = fault_text fault
 flaw_text TooWide = codes "a figure is too wide for a feed: the greatest TIME, PRICE, SP, L, UR and LR is 1073741823, QUANTITY 16777215, MODE 3, SESSION 7"
 flaw_text TooLong = codes "the feed would be longer than 65536 bytes"
 flaw_text NoMemory = codes "out of memory"
+
+-- the line's number, and what is wrong with it
+abbrev pub script_fault_text : ScriptFault → List ℕ
+script_fault_text fault = decimal fault.line ++ (codes ": " ++ flaw_text fault.flaw)
 
 -- what a writer's fault says of the line: refusal 17 is a feed too long, and any other a figure too wide
 abbrev pub flaw_of : WriteFault → Flaw

@@ -2,7 +2,8 @@
 ghost use Rattle.std.specs.Prelude.{◌≡◌, Some, MatchResult};
 ghost use Rattle.script_words.specs.Lines.{lines_of};
 ghost use Rattle.script_parse.specs.Entries.{entry_of};
-ghost use Rattle.commands.specs.Encoding.{flaw_text, flaw_of, Appended, Encodes, Flawed, Fails};
+ghost use Rattle.commands.specs.declared.encoding.Flaw.TheVariants.{Unreadable};
+ghost use Rattle.commands.specs.Encoding.{flaw_text, script_fault_text, flaw_of, Appended, Encodes, Flawed, Fails};
 
 use entry::refusals::Refusal;
 use feed::whole::{WriteFault, append};
@@ -13,14 +14,14 @@ use std::alloc::Global;
 use std::fmt;
 
 /// A feed, and how many records it has.
-#[derive(Drop)]
+#[derive(Drop, PartialEq, Eq, Debug)]
 pub struct Encoded {
     pub feed: Vec<u8>,
     pub records: usize,
 }
 
 /// Why a line cannot be written to a feed.
-#[derive(Clone, Copy)]
+#[derive(Clone, Copy, PartialEq, Eq, Debug)]
 pub enum Flaw<'a> {
     /// The line cannot be read.
     Unreadable(LineFault<'a>),
@@ -33,10 +34,18 @@ pub enum Flaw<'a> {
 }
 
 /// Why a script has no feed: the line, from 1, and what is wrong with it.
-#[derive(Clone, Copy)]
+#[derive(Clone, Copy, PartialEq, Eq, Debug)]
 pub struct ScriptFault<'a> {
     pub line: usize,
     pub flaw: Flaw<'a>,
+}
+
+impl fmt::Display for ScriptFault<'_> {
+    ghost output = { λ fault. Some (script_fault_text fault) };
+
+    fn fmt<W: fmt::Write>(&self, f: &mut fmt::Formatter<W>) -> fmt::Result {
+        write!(f, "{}: {}", self.line, self.flaw)
+    }
 }
 
 impl fmt::Display for Flaw<'_> {
@@ -55,14 +64,24 @@ impl fmt::Display for Flaw<'_> {
     }
 }
 
+impl<'a> From<LineFault<'a>> for Flaw<'a> {
+    ghost from_gives = { λ fault result. result ≡ Unreadable fault };
+
+    fn from(fault: LineFault<'a>) -> Flaw<'a> {
+        Self::Unreadable(fault)
+    }
+}
+
 /// What a writer's fault says of the line.
-fn flaw_of<'a>(fault: WriteFault) -> Flaw<'a>
-    ensures answer { result ≡ flaw_of fault }
-{
-    match fault {
-        WriteFault::NoMemory => Flaw::NoMemory,
-        WriteFault::Refused(Refusal::FeedTooLong) => Flaw::TooLong,
-        WriteFault::Refused(_) => Flaw::TooWide,
+impl From<WriteFault> for Flaw<'_> {
+    ghost from_gives = { λ fault result. result ≡ flaw_of fault };
+
+    fn from(fault: WriteFault) -> Self {
+        match fault {
+            WriteFault::NoMemory => Flaw::NoMemory,
+            WriteFault::Refused(Refusal::FeedTooLong) => Flaw::TooLong,
+            WriteFault::Refused(_) => Flaw::TooWide,
+        }
     }
 }
 
@@ -70,20 +89,14 @@ fn flaw_of<'a>(fault: WriteFault) -> Flaw<'a>
 pub fn append_line<'a>(feed: &mut Vec<u8>, line: &'a str) -> Result<bool, Flaw<'a>>
     ensures answer { MatchResult result (λ added. Appended feed.old.items (entry_of line.now) added feed.new.items) (Flawed feed.old.items (entry_of line.now)) }
 {
-    let found = match parse(line) {
-        Ok(found) => found,
-        Err(fault) => return Err(Flaw::Unreadable(fault)),
-    };
-    let Some(command) = found else {
+    let Some(command) = parse(line)? else {
         return Ok(false);
     };
     let Some(entry) = command.entry() else {
         return Ok(false);
     };
-    match append(feed, entry) {
-        Ok(()) => Ok(true),
-        Err(fault) => Err(flaw_of(fault)),
-    }
+    append(feed, entry)?;
+    Ok(true)
 }
 
 /// The feed of a script's entry lines. Other commands are passed over.
@@ -92,13 +105,15 @@ pub fn encode_script<'a>(heap: Global, script: &'a str) -> Result<Encoded, Scrip
 {
     let mut feed = Vec::new(heap);
     let mut records = 0;
-    let mut number = 0;
-    let mut lines = Lines::new(script);
-    while let Some(line) = lines.next() {
-        number += 1;
+    for (index, line) in Lines::new(script).enumerate() {
         match append_line(&mut feed, line) {
             Ok(added) => records += usize::from(added),
-            Err(flaw) => return Err(ScriptFault { line: number, flaw }),
+            Err(flaw) => {
+                return Err(ScriptFault {
+                    line: index + 1,
+                    flaw,
+                });
+            }
         }
     }
     Ok(Encoded { feed, records })

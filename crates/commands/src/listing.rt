@@ -8,8 +8,8 @@ use feed::whole::{Readings, read};
 use script::print::Plain;
 use std::alloc::{AllocError, Global};
 
-/// The lines of a feed, and whether it was read to its end.
-#[derive(Drop)]
+/// The lines of a feed, and whether it was read to its end. A listing that ends at a fault has lines too, so it is no error.
+#[derive(Drop, PartialEq, Eq, Debug)]
 pub struct Listing {
     pub text: String,
     pub whole: bool,
@@ -36,8 +36,7 @@ pub fn lines(heap: Global, entries: &[Entry]) -> Result<String, AllocError>
 {
     let mut text = String::new(heap);
     for entry in entries {
-        let line = format!(in heap; "{}\n", Plain(*entry))?;
-        text.push_str(line.as_str())?;
+        writeln!(text, "{}", Plain(*entry))?;
     }
     Ok(text)
 }

@@ -1,5 +1,5 @@
 // What the program is asked to do.
-ghost use Rattle.std.specs.Prelude.{[], ◌∷◌, map, string_bytes};
+ghost use Rattle.std.specs.Prelude.{map, string_bytes};
 ghost use Rattle.commands.specs.Requests.{Asks};
 
 /// The usage line.
@@ -16,7 +16,7 @@ usage: velvetpalm COMMAND
 ";
 
 /// What the program is asked to do, by the words after its name.
-#[derive(Clone, Copy)]
+#[derive(Clone, Copy, PartialEq, Eq, Debug)]
 pub enum Request<'a> {
     Help,
     Day { script: &'a str },
@@ -25,49 +25,22 @@ pub enum Request<'a> {
     Unknown,
 }
 
-/// What one word asks for.
-fn one_word<'a>(command: &str) -> Request<'a>
-    ensures answer { Asks (command.now ∷ []) result }
-{
-    if command == "--help" {
-        Request::Help
-    } else {
-        Request::Unknown
-    }
-}
-
-/// What two words ask for.
-fn two_words<'a>(command: &str, file: &'a str) -> Request<'a>
-    ensures answer { Asks (command.now ∷ file.now ∷ []) result }
-{
-    if command == "day" {
-        Request::Day { script: file }
-    } else if command == "decode" {
-        Request::Decode { feed: file }
-    } else {
-        Request::Unknown
-    }
-}
-
-/// What three words ask for.
-fn three_words<'a>(command: &str, script: &'a str, feed: &'a str) -> Request<'a>
-    ensures answer { Asks (command.now ∷ script.now ∷ feed.now ∷ []) result }
-{
-    if command == "encode" {
-        Request::Encode { script, feed }
-    } else {
-        Request::Unknown
-    }
-}
-
 /// What the words ask for.
 pub fn read_request(words: &[String]) -> Request<'_>
     ensures answer { Asks (map string_bytes words.now) result }
 {
-    match words.len() {
-        1 => one_word(words[0].as_str()),
-        2 => two_words(words[0].as_str(), words[1].as_str()),
-        3 => three_words(words[0].as_str(), words[1].as_str(), words[2].as_str()),
+    match words {
+        [command] if command.as_str() == "--help" => Request::Help,
+        [command, file] if command.as_str() == "day" => Request::Day {
+            script: file.as_str(),
+        },
+        [command, feed] if command.as_str() == "decode" => Request::Decode {
+            feed: feed.as_str(),
+        },
+        [command, script, feed] if command.as_str() == "encode" => Request::Encode {
+            script: script.as_str(),
+            feed: feed.as_str(),
+        },
         _ => Request::Unknown,
     }
 }

@@ -1,2 +1,3 @@
 -- What the contracts of a script that is carried out cite.
 pub mod Boards
+pub mod Stops

@@ -2,194 +2,133 @@
 ghost use Rattle.std.specs.Prelude.{◌<◌, length, IfOk, OnSome};
 ghost use Rattle.script_words.specs.Lines.{to_come};
 
-use crate::boards::board_answer;
-use crate::plans::{Timetable, plan_answer};
-use crate::report::{Answer, Report, Stop};
-use board::{Board, Level};
+use crate::boards::{board_answer, new_board};
+use crate::plans::Timetable;
+use crate::report::{Answer, GridStart, Halt, LadderCount, NewBoard, OutOfPlace, Report, Stop};
+use board::Level;
 use grid::Grid;
 use ladder::Ladder;
 use ladder::records::{BuyLevel, SellLevel};
-use script::command::Command;
+use script::command::{BoardCommand, Command, DayCommand};
 use script_parse::parse::parse;
 use script_words::lines::Lines;
 use std::alloc::{AllocError, Global};
 
-const BLANK: Level = Level {
-    price: 0,
-    orders: 0,
-    since: 0,
-};
-
-// What a script has come to: what it printed, its plan, the line, and what stopped it.
+// A script that is being carried out: the lines that are left, the number of the last one taken, what was printed, and the plan.
 #[derive(Drop)]
-struct Desk {
+struct Desk<'a> {
+    heap: Global,
+    lines: Lines<'a>,
+    line: usize,
     text: String,
     timetable: Timetable,
-    line: usize,
-    stop: Option<Stop>,
 }
 
-// What comes after a stretch of lines: the script ended or stopped, or it goes on with another board.
-#[derive(Clone, Copy)]
-enum Next {
-    End,
-    Ladder(usize),
-    Grid(u32),
-}
-
-impl Desk {
-    // Prints a command and its result.
-    fn tell(&mut self, heap: Global, command: Command, res: &str) -> Result<(), AllocError> {
-        let line = format!(in heap; "{command} -> {res}\n")?;
-        self.text.push_str(line.as_str())
-    }
-
-    // Stops the script at its line.
-    fn halt(&mut self, why: String) -> Next {
-        self.stop = Some(Stop {
-            line: self.line,
-            why,
-        });
-        Next::End
-    }
-
-    // The command of the next line that has one; none at the script's end, and where a line cannot be read.
-    fn command<'a>(
-        &mut self,
-        heap: Global,
-        lines: &mut Lines<'a>,
-    ) -> Result<Option<Command<'a>>, AllocError>
-        ensures fewer { IfOk result (λ found. OnSome found (length (to_come lines.new) < length (to_come lines.old))) }
+impl<'a> Desk<'a> {
+    // The command of the next line that has one; none at the script's end.
+    fn command(&mut self) -> Result<Option<Command<'a>>, Halt>
+        ensures fewer { IfOk result (λ found. OnSome found (length (to_come self.new.lines) < length (to_come self.old.lines))) }
     {
-        while let Some(line) = lines.next() {
+        while let Some(line) = self.lines.next() {
+            // Counted here and not by `enumerate`, since the number is kept when the function returns.
             self.line = self.line.saturating_add(1);
             match parse(line) {
-                Ok(None) => {}
                 Ok(Some(command)) => return Ok(Some(command)),
-                Err(fault) => {
-                    let why = format!(in heap; "{fault}")?;
-                    let _ = self.halt(why);
-                    return Ok(None);
-                }
+                Ok(None) => {}
+                Err(fault) => return Err(Halt::Unreadable(format!(in self.heap; "{fault}")?)),
             }
         }
         Ok(None)
     }
 
-    // Prints an answer: what comes next, if the stretch of lines ends with it.
-    fn answer(
+    // Carries out lines until one asks for another board. Commands for a board are answered by the function that is passed.
+    fn stretch<F: FnMut(BoardCommand) -> Result<Answer, Halt>>(
         &mut self,
-        heap: Global,
-        command: Command,
-        answer: Answer,
-    ) -> Result<Option<Next>, AllocError> {
-        match answer {
-            Answer::Result(text) => {
-                self.tell(heap, command, text.as_str())?;
-                Ok(None)
+        mut on_board: F,
+    ) -> Result<Option<NewBoard>, Halt>
+        requires { F.IsAlwaysCallable on_board }
+        ensures fewer { IfOk result (λ next. OnSome next (length (to_come self.new.lines) < length (to_come self.old.lines))) }
+    {
+        while let Some(command) = self.command()? {
+            let answer = match command {
+                Command::Plan(plan) => self.timetable.answer(self.heap, plan)?,
+                Command::NewBoard(shape) => new_board(shape).into(),
+                Command::Board(board) => on_board(board)?,
+                Command::Day(DayCommand::Listed | DayCommand::Open { .. }) => {
+                    return Err(OutOfPlace::DaysNotBuilt.into());
+                }
+                Command::Entry(_) | Command::Day(_) => return Err(OutOfPlace::NoOpenDay.into()),
+            };
+            writeln!(self.text, "{command} -> {answer}")?;
+            if let Answer::Board(board) = answer {
+                return Ok(Some(board));
             }
-            Answer::OutOfPlace(why) => {
-                let why = String::from_str(heap, why)?;
-                Ok(Some(self.halt(why)))
+        }
+        Ok(None)
+    }
+
+    // Carries out lines while there is no board.
+    fn without_board(&mut self) -> Result<Option<NewBoard>, Halt>
+        ensures fewer { IfOk result (λ next. OnSome next (length (to_come self.new.lines) < length (to_come self.old.lines))) }
+    {
+        self.stretch(|_| Err(OutOfPlace::NoBoard.into()))
+    }
+
+    // Carries out lines on a new board.
+    fn on_board(&mut self, board: NewBoard) -> Result<Option<NewBoard>, Halt>
+        ensures fewer { IfOk result (λ next. OnSome next (length (to_come self.new.lines) < length (to_come self.old.lines))) }
+    {
+        let heap = self.heap;
+        match board {
+            NewBoard::Ladder(LadderCount { count }) => {
+                let mut buys = vec![in heap; BuyLevel::default(); count]?;
+                let mut sells = vec![in heap; SellLevel::default(); count]?;
+                let mut ladder = Ladder::new(buys.as_mut_slice(), sells.as_mut_slice());
+                self.stretch(|command| board_answer(heap, &mut ladder, command))
             }
-            Answer::Ladder(count) => {
-                self.tell(heap, command, "ok")?;
-                Ok(Some(Next::Ladder(count)))
-            }
-            Answer::Grid(start) => {
-                self.tell(heap, command, "ok")?;
-                Ok(Some(Next::Grid(start)))
+            NewBoard::Grid(GridStart { start }) => {
+                let mut grid = Grid::new(start);
+                self.stretch(|command| board_answer(heap, &mut grid, command))
             }
         }
     }
-}
 
-// Carries out lines while there is no board.
-fn without_board(heap: Global, desk: &mut Desk, lines: &mut Lines) -> Result<Next, AllocError> {
-    while let Some(command) = desk.command(heap, lines)? {
-        let answer = match plan_answer(heap, &mut desk.timetable, command)? {
-            Some(answer) => answer,
-            None => Answer::OutOfPlace("there is no board"),
-        };
-        if let Some(next) = desk.answer(heap, command, answer)? {
-            return Ok(next);
+    // Carries out all lines.
+    fn run(&mut self) -> Result<(), Halt> {
+        let mut next = self.without_board()?;
+        while let Some(board) = next {
+            next = self.on_board(board)?;
         }
+        Ok(())
     }
-    Ok(Next::End)
-}
-
-// Carries out lines on a board.
-fn on_board<B: Board>(
-    heap: Global,
-    desk: &mut Desk,
-    lines: &mut Lines,
-    board: &mut B,
-) -> Result<Next, AllocError> {
-    while let Some(command) = desk.command(heap, lines)? {
-        let answer = match plan_answer(heap, &mut desk.timetable, command)? {
-            Some(answer) => answer,
-            None => board_answer(heap, board, command)?,
-        };
-        if let Some(next) = desk.answer(heap, command, answer)? {
-            return Ok(next);
-        }
-    }
-    Ok(Next::End)
-}
-
-// Carries out lines on a new ladder.
-fn on_ladder(
-    heap: Global,
-    desk: &mut Desk,
-    lines: &mut Lines,
-    count: usize,
-) -> Result<Next, AllocError> {
-    let mut buys = vec![in heap; BuyLevel(BLANK); count]?;
-    let mut sells = vec![in heap; SellLevel(BLANK); count]?;
-    if Ladder::test(buys.len(), sells.len()).is_err() {
-        return without_board(heap, desk, lines);
-    }
-    let mut ladder = Ladder::new(buys.as_mut_slice(), sells.as_mut_slice());
-    on_board(heap, desk, lines, &mut ladder)
-}
-
-// Carries out lines on a new grid.
-fn on_grid(
-    heap: Global,
-    desk: &mut Desk,
-    lines: &mut Lines,
-    start: u32,
-) -> Result<Next, AllocError> {
-    if Grid::test(start).is_err() {
-        return without_board(heap, desk, lines);
-    }
-    let mut grid = Grid::new(start);
-    on_board(heap, desk, lines, &mut grid)
 }
 
 /// Carries out a script, and tells what it printed and what stopped it.
 pub fn run_script(heap: Global, script: &str) -> Result<Report, AllocError> {
     let mut desk = Desk {
-        text: String::new(heap),
-        timetable: Timetable::Missing,
+        heap,
+        lines: Lines::new(script),
         line: 0,
-        stop: None,
+        text: String::new(heap),
+        timetable: Timetable::Empty,
     };
-    let mut lines = Lines::new(script);
-    let mut next = without_board(heap, &mut desk, &mut lines)?;
-    // Each turn but the last takes a line, and a line has a byte at least.
-    for _ in 0..script.len() {
-        next = match next {
-            Next::End => break,
-            Next::Ladder(count) => on_ladder(heap, &mut desk, &mut lines, count)?,
-            Next::Grid(start) => on_grid(heap, &mut desk, &mut lines, start)?,
-        };
-    }
-    let Desk {
-        text,
-        timetable: _,
-        line: _,
-        stop,
-    } = desk;
-    Ok(Report { text, stop })
+    let outcome = desk.run();
+    let why = match outcome {
+        Ok(()) => {
+            return Ok(Report {
+                text: desk.text,
+                stop: None,
+            });
+        }
+        Err(Halt::Unreadable(why)) => why,
+        Err(Halt::OutOfPlace(why)) => format!(in heap; "{why}")?,
+        Err(Halt::NoMemory(why)) => return Err(why),
+    };
+    Ok(Report {
+        text: desk.text,
+        stop: Some(Stop {
+            line: desk.line,
+            why,
+        }),
+    })
 }

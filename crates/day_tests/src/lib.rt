@@ -3,37 +3,27 @@
 
 #[cfg(test)]
 mod tests {
-    use day::report::Report;
     use day::run::run_script;
     use std::alloc::Global;
     use std::process::Abort;
     use std::test::Fail;
 
-    // The script prints this text, and then stops at this line for this reason, or at line 0 if it goes to its end.
+    // The script prints this text, and then stops at a line for a reason, or goes to its end.
     fn prints(
         rt: &impl Abort,
         heap: Global,
         script: &str,
         text: &str,
-        line: usize,
-        why: &str,
+        stop: Option<(usize, &str)>,
     ) -> Result<(), Fail> {
-        let Report {
-            text: printed,
-            stop,
-        } = run_script(heap, script)?;
-        assert_eq!(rt; printed.as_str(), text);
-        match stop {
-            Some(stop) => {
-                assert_eq!(rt; stop.line, line);
-                assert_eq!(rt; stop.why.as_str(), why);
-                Ok(())
-            }
-            None => {
-                assert_eq!(rt; line, 0);
-                Ok(())
-            },
-        }
+        let report = run_script(heap, script)?;
+        assert_eq!(rt; report.text.as_str(), text);
+        let stopped = report
+            .stop
+            .as_ref()
+            .map(|stop| (stop.line, stop.why.as_str()));
+        assert_eq!(rt; stopped, stop);
+        Ok(())
     }
 
     #[test]
@@ -43,8 +33,7 @@ mod tests {
             rt.alloc(),
             "board ladder 16 # a thin paper\nadd buy 1010 5\nadd  buy 1010 9\nadd buy 1020 7\nlevels buy\ntake buy 1020\ntake buy 1020\nlevels buy\nlevels sell\nadd sell 0 1\n",
             "board ladder 16 -> ok\nadd buy 1010 5 -> ok\nadd buy 1010 9 -> ok\nadd buy 1020 7 -> ok\nlevels buy -> 1020:1:7 1010:2:5\ntake buy 1020 -> ok\ntake buy 1020 -> refused 9\nlevels buy -> 1010:2:5\nlevels sell -> none\nadd sell 0 1 -> refused 8\n",
-            0,
-            "",
+            None,
         )
     }
 
@@ -55,8 +44,7 @@ mod tests {
             rt.alloc(),
             "board grid 0\nboard grid 1000\nadd sell 1255 3\nadd sell 1256 3\nboard ladder 15\nlevels sell\nboard grid 1000\nlevels sell\n",
             "board grid 0 -> refused 1\nboard grid 1000 -> ok\nadd sell 1255 3 -> ok\nadd sell 1256 3 -> refused 8\nboard ladder 15 -> refused 1\nlevels sell -> 1255:1:3\nboard grid 1000 -> ok\nlevels sell -> none\n",
-            0,
-            "",
+            None,
         )
     }
 
@@ -67,40 +55,48 @@ mod tests {
             rt.alloc(),
             "plan fixed 2 1\nsession 36000000\nsession 122400000\nsession 154800000\nsession 0\nplan fixed 11 0\nsession 111600000\nplan announced\nwindow 10 20 2 free 0\nwindow 20 30 3 bounded 100\nwindow 19 21 1 free 0\nwindow 5 5 1 free 0\nsession 19\nsession 20\nsession 30\n",
             "plan fixed 2 1 -> ok\nsession 36000000 -> weekend bounded 30\nsession 122400000 -> main bounded 220\nsession 154800000 -> evening bounded 100\nsession 0 -> none\nplan fixed 11 0 -> refused 1\nsession 111600000 -> morning bounded 100\nplan announced -> ok\nwindow 10 20 2 free 0 -> ok\nwindow 20 30 3 bounded 100 -> ok\nwindow 19 21 1 free 0 -> refused 12\nwindow 5 5 1 free 0 -> refused 1\nsession 19 -> main free\nsession 20 -> evening bounded 100\nsession 30 -> none\n",
-            0,
-            "",
+            None,
         )
     }
 
     #[test]
     fn out_of_place(rt: HostRuntime) -> Result<(), Fail> {
         let heap = rt.alloc();
-        prints(&rt, heap, "\nlevels buy\n", "", 2, "there is no board")?;
-        prints(&rt, heap, "session 5\n", "", 1, "there is no plan")?;
+        prints(
+            &rt,
+            heap,
+            "\nlevels buy\n",
+            "",
+            Some((2, "there is no board")),
+        )?;
+        prints(&rt, heap, "session 5\n", "", Some((1, "there is no plan")))?;
         prints(
             &rt,
             heap,
             "plan fixed 1 0\nwindow 1 2 1 free 0\n",
             "plan fixed 1 0 -> ok\n",
-            2,
-            "there is no announced plan",
+            Some((2, "there is no announced plan")),
         )?;
         prints(
             &rt,
             heap,
             "board grid 1\nclock 5\n",
             "board grid 1 -> ok\n",
-            2,
-            "no day is open",
+            Some((2, "no day is open")),
         )?;
-        prints(&rt, heap, "listed\n", "", 1, "days are not built yet")?;
+        prints(
+            &rt,
+            heap,
+            "listed\n",
+            "",
+            Some((1, "days are not built yet")),
+        )?;
         prints(
             &rt,
             heap,
             "board grid 1\n# nothing\nadd bye 1 2\nlevels buy\n",
             "board grid 1 -> ok\n",
-            3,
-            "'bye' is neither buy nor sell",
+            Some((3, "'bye' is neither buy nor sell")),
         )
     }
 }

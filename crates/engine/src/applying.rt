@@ -6,14 +6,15 @@ ghost use Rattle.rules.specs.Calls.{Entered};
 ghost use Rattle.engine.specs.Calls.{state_of};
 
 use crate::OpenDay;
-use crate::ranges::{are_params, is_price, is_quantity, is_session_code};
+use crate::ranges::{are_params, is_price, is_quantity};
 use board::Board;
 use entry::refusals::Refusal;
 use entry::{Entry, Side};
-use plan::Plan;
+use plan::{Plan, Session};
 
 impl OpenDay {
-    // The entry's kind, mode and side select its checks, and what no arm takes is out of range.
+    // The entry's kind, mode and side select its checks, and what no arm takes is out of range. The project fixes that this is one
+    // match with guards.
     pub(crate) fn apply<B: Board, P: Plan>(
         &mut self,
         board: &mut B,
@@ -78,7 +79,8 @@ impl OpenDay {
                 time,
                 session,
                 price,
-            } if is_session_code(session) && is_price(price) => {
+            } if is_price(price) => {
+                let session = Session::try_from(session)?;
                 self.set_reference(board, plan, time, session, price)
             }
             Entry::Ruling { time, price } if is_price(price) => {
@@ -88,7 +90,8 @@ impl OpenDay {
         }
     }
 
-    // The entry applied, with what the rules promise of it.
+    // The entry applied, with what the rules promise of it. The promise is drawn from the other's answer: stated there, it would be
+    // proved at each of its returns.
     pub(crate) fn enter<B: Board, P: Plan>(
         &mut self,
         board: &mut B,

@@ -21,6 +21,8 @@ pub struct ClosedDay {
     figures: ClosedFigures,
 }
 
+// Board and plan come with each call and not as one value with the day, since board and day are changed by calls of their own.
+// So the clauses name all three: a shorter word for them would take as many arguments.
 /// An open day, which takes entries. It is moved on, and can be neither copied nor let go.
 pub struct OpenDay {
     figures: OpenFigures,

@@ -8,7 +8,7 @@ use crate::{ClosedDay, OpenDay};
 use board::Board;
 use entry::Params;
 use entry::refusals::Refusal;
-use rules::figures::{ClosedFigures, DaysLeft, Forerunners, Marks, OpenFigures, References};
+use rules::figures::{ClosedFigures, Forerunners, Marks, OpenFigures, References};
 
 impl ClosedDay {
     /// A newly listed security: it has no quotation yet, and no tightened days.
@@ -16,13 +16,7 @@ impl ClosedDay {
         ensures answer { result.figures ≡ newly_listed }
     {
         ClosedDay {
-            figures: ClosedFigures {
-                quotation: None,
-                days: DaysLeft {
-                    upward: 0,
-                    downward: 0,
-                },
-            },
+            figures: ClosedFigures::default(),
         }
     }
 
@@ -88,20 +82,9 @@ fn begun(before: ClosedFigures, time: u32, params: Params) -> OpenFigures
         time,
         quotation: before.quotation.unwrap_or(params.sp),
         params,
-        references: References {
-            morning: None,
-            main: None,
-            evening: None,
-            weekend: None,
-        },
-        marks: Marks {
-            upward: false,
-            downward: false,
-        },
+        references: References::default(),
+        marks: Marks::default(),
         days: before.days,
-        forerunners: Forerunners {
-            buy: None,
-            sell: None,
-        },
+        forerunners: Forerunners::default(),
     }
 }

@@ -6,8 +6,7 @@ ghost use Rattle.rules.specs.Effects.{ended};
 ghost use Rattle.engine.specs.Calls.{state_of, after_checked};
 
 use crate::OpenDay;
-use crate::checks::{by_board, in_side, kept_apart, listed, on_time};
-use crate::readings::quotation_at;
+use crate::checks::kept_apart;
 use board::{Board, Level};
 use entry::Side;
 use entry::refusals::Refusal;
@@ -28,16 +27,12 @@ impl OpenDay {
         ensures after { state_of self.new (B.Board.book board.new) ≡ after_checked (P.Plan.hours plan.now) (state_of self.old (B.Board.book board.old)) (Entry.Post time side 0 price) }
         ensures lent { B.Board.loans board.new ≡ B.Board.loans board.old }
     {
-        let slot = listed(&self.figures, plan, time, price)?;
-        let quotation = quotation_at(&self.figures, board, time);
-        in_side(&self.figures, side, price, quotation, slot)?;
+        let slot = self.listed(plan, time, price)?;
+        let quotation = self.quotation_at(board, time);
+        self.in_side(side, price, quotation, slot)?;
         kept_apart(board, side, price)?;
-        by_board(board.add(side, price, time))?;
-        self.figures = OpenFigures {
-            time,
-            quotation,
-            ..self.figures
-        };
+        board.add(side, price, time)?;
+        self.figures = self.figures.at(time, quotation);
         Ok(())
     }
 
@@ -54,47 +49,38 @@ impl OpenDay {
         ensures after { state_of self.new (B.Board.book board.new) ≡ after_checked (P.Plan.hours plan.now) (state_of self.old (B.Board.book board.old)) (Entry.Leave time side price) }
         ensures lent { B.Board.loans board.new ≡ B.Board.loans board.old }
     {
-        on_time(&self.figures, time)?;
-        let quotation = quotation_at(&self.figures, board, time);
+        self.on_time(time)?;
+        let quotation = self.quotation_at(board, time);
         let best = board.best(side);
-        by_board(board.take(side, price))?;
+        board.take(side, price)?;
         self.figures = OpenFigures {
-            time,
-            quotation,
-            forerunners: forerunners_after(self.figures.forerunners, side, price, time, best),
-            ..self.figures
+            forerunners: self.forerunners_after(side, price, time, best),
+            ..self.figures.at(time, quotation)
         };
         Ok(())
     }
-}
 
-// The forerunners after an order leaves: the last order of its side's best level makes that level the side's forerunner.
-fn forerunners_after(
-    forerunners: Forerunners,
-    side: Side,
-    price: u32,
-    time: u32,
-    best: Option<Level>,
-) -> Forerunners
-    ensures { result ≡ ended forerunners side price time best }
-{
-    match (side, best) {
-        (Side::Buy, Some(level)) if level.price == price && level.orders == 1 => Forerunners {
-            buy: Some(Forerunner {
-                price,
-                since: level.since,
-                life: time.saturating_sub(level.since),
-            }),
-            sell: forerunners.sell,
-        },
-        (Side::Sell, Some(level)) if level.price == price && level.orders == 1 => Forerunners {
-            buy: forerunners.buy,
-            sell: Some(Forerunner {
-                price,
-                since: level.since,
-                life: time.saturating_sub(level.since),
-            }),
-        },
-        _ => forerunners,
+    // The forerunners after an order leaves: the last order of its side's best level makes that level the side's forerunner.
+    fn forerunners_after(
+        &self,
+        side: Side,
+        price: u32,
+        time: u32,
+        best: Option<Level>,
+    ) -> Forerunners
+        ensures { result ≡ ended self.now.figures.forerunners side price time best }
+    {
+        let forerunners = self.figures.forerunners;
+        match best {
+            Some(level) if level.price == price && level.orders == 1 => {
+                let ended = Forerunner {
+                    price,
+                    since: level.since,
+                    life: time.saturating_sub(level.since),
+                };
+                forerunners.with(side, Some(ended))
+            }
+            _ => forerunners,
+        }
     }
 }

@@ -1,5 +1,5 @@
 // The ranges of an entry's figures.
-ghost use Rattle.std.specs.Prelude.{◌≡◌, ◌&&◌, nat_le};
+ghost use Rattle.std.specs.Prelude.{◌≡◌};
 ghost use Rattle.rules.specs.Checks.{is_price, is_quantity, are_params};
 
 use entry::Params;
@@ -11,18 +11,21 @@ const GREATEST_PRICE: u32 = 1_000_000_000;
 
 const GREATEST_QUANTITY: u32 = 16_777_215;
 
+// A price is at least 1.
 pub(crate) fn is_price(price: u32) -> bool
     ensures { result ≡ is_price price }
 {
-    price >= 1 && price <= GREATEST_PRICE
+    (1..=GREATEST_PRICE).contains(&price)
 }
 
+// A quantity is at least 1.
 pub(crate) fn is_quantity(quantity: u32) -> bool
     ensures { result ≡ is_quantity quantity }
 {
-    quantity >= 1 && quantity <= GREATEST_QUANTITY
+    (1..=GREATEST_QUANTITY).contains(&quantity)
 }
 
+// Of the four parameters SP alone must be above 0, and LR must not be above UR.
 pub(crate) fn are_params(params: Params) -> bool
     ensures { result ≡ are_params params }
 {
@@ -30,11 +33,4 @@ pub(crate) fn are_params(params: Params) -> bool
         && params.l <= GREATEST_PRICE
         && params.ur <= GREATEST_PRICE
         && params.lr <= params.ur
-}
-
-// Whether a code is that of a session.
-pub(crate) fn is_session_code(code: u8) -> bool
-    ensures { result ≡ (nat_le 1 code && nat_le code 4) }
-{
-    code >= 1 && code <= 4
 }

@@ -1,6 +1,6 @@
 // A list of entries applied in order, with a trail line for each.
-ghost use Rattle.std.specs.Prelude.{◌≡◌, length};
-ghost use Rattle.rules.specs.Runs.{line_of, final, run_answer, applied, trail_after};
+ghost use Rattle.std.specs.Prelude.{◌≡◌};
+ghost use Rattle.rules.specs.Runs.{line_of};
 ghost use Rattle.rules.specs.Calls.{Ran};
 ghost use Rattle.engine.specs.Calls.{state_of};
 
@@ -12,7 +12,7 @@ use plan::Plan;
 use rules::figures::TrailLine;
 
 impl OpenDay {
-    // The trail line of an answer, after the entry.
+    // The trail line of an answer, after the entry. A conversion from a `Result` would have the same two arms, and a `map` more.
     fn line(&self, answer: Result<(), Refusal>) -> TrailLine
         ensures { result ≡ line_of answer self.now.figures.quotation }
     {
@@ -28,29 +28,6 @@ impl OpenDay {
         }
     }
 
-    // The entries applied in order, by equality.
-    fn run_through<B: Board, P: Plan>(
-        &mut self,
-        board: &mut B,
-        plan: &P,
-        entries: &[Entry],
-        trail: &mut [TrailLine],
-    ) -> Result<(), Refusal>
-        ensures answer { result ≡ run_answer entries.now (length trail.old) }
-        ensures after { state_of self.new (B.Board.book board.new) ≡ final (P.Plan.hours plan.now) (state_of self.old (B.Board.book board.old)) (applied entries.now (length trail.old)) }
-        ensures trail { trail.new ≡ trail_after (P.Plan.hours plan.now) (state_of self.old (B.Board.book board.old)) entries.now trail.old }
-        ensures lent { B.Board.loans board.new ≡ B.Board.loans board.old }
-    {
-        if trail.len() < entries.len() {
-            return Err(Refusal::TrailShort);
-        }
-        for (i, entry) in entries.iter().enumerate() {
-            let answer = self.apply(board, plan, *entry);
-            trail[i] = self.line(answer);
-        }
-        Ok(())
-    }
-
     /// Applies the entries in order, and writes the trail line of each at the entry's own place. A refused entry does not end the
     /// run. A trail with fewer lines than there are entries is refused before anything else.
     pub fn run<B: Board, P: Plan>(
@@ -63,6 +40,14 @@ impl OpenDay {
         ensures ran { Ran (P.Plan.hours plan.now) (state_of self.old (B.Board.book board.old)) entries.now trail.old result (state_of self.new (B.Board.book board.new)) trail.new }
         ensures lent { B.Board.loans board.new ≡ B.Board.loans board.old }
     {
-        self.run_through(board, plan, entries, trail)
+        if trail.len() < entries.len() {
+            return Err(Refusal::TrailShort);
+        }
+        // The project fixes this form: the entries are counted, and each line is written at its entry's own place.
+        for (i, entry) in entries.iter().enumerate() {
+            let answer = self.apply(board, plan, *entry);
+            trail[i] = self.line(answer);
+        }
+        Ok(())
     }
 }

@@ -5,8 +5,6 @@ ghost use Rattle.rules.specs.Effects.{marked_in};
 ghost use Rattle.engine.specs.Calls.{state_of, after_checked, trade_of};
 
 use crate::OpenDay;
-use crate::checks::{in_dynamic, listed};
-use crate::readings::{lp, quotation_at};
 use board::Board;
 use entry::refusals::Refusal;
 use plan::{Plan, Session, Slot};
@@ -24,19 +22,18 @@ impl OpenDay {
         ensures answer { result ≡ checked (P.Plan.hours plan.now) (state_of self.old (B.Board.book board.now)) (trade_of time 0 price) }
         ensures after { state_of self.new (B.Board.book board.now) ≡ after_checked (P.Plan.hours plan.now) (state_of self.old (B.Board.book board.now)) (trade_of time 0 price) }
     {
-        let slot = listed(&self.figures, plan, time, price)?;
-        let quotation = quotation_at(&self.figures, board, time);
-        in_dynamic(&self.figures, price, quotation, slot)?;
+        let slot = self.listed(plan, time, price)?;
+        let quotation = self.quotation_at(board, time);
+        self.in_dynamic(price, quotation, slot)?;
         self.figures = OpenFigures {
-            time,
-            quotation: price,
-            marks: marks_after(&self.figures, price, slot),
-            ..self.figures
+            marks: self.marks_after(price, slot),
+            ..self.figures.at(time, price)
         };
         Ok(())
     }
 
-    // A trade of the closing auction, which is held to the dynamic limits too, and sets nothing.
+    // A trade of the closing auction, which is held to the dynamic limits too, and sets nothing. The two trades repeat three lines
+    // of checks: one function for these would have to tell the slot and the quotation too, in a contract longer than the lines.
     pub(crate) fn trade_at_auction<B: Board, P: Plan>(
         &mut self,
         board: &B,
@@ -47,14 +44,10 @@ impl OpenDay {
         ensures answer { result ≡ checked (P.Plan.hours plan.now) (state_of self.old (B.Board.book board.now)) (trade_of time 1 price) }
         ensures after { state_of self.new (B.Board.book board.now) ≡ after_checked (P.Plan.hours plan.now) (state_of self.old (B.Board.book board.now)) (trade_of time 1 price) }
     {
-        let slot = listed(&self.figures, plan, time, price)?;
-        let quotation = quotation_at(&self.figures, board, time);
-        in_dynamic(&self.figures, price, quotation, slot)?;
-        self.figures = OpenFigures {
-            time,
-            quotation,
-            ..self.figures
-        };
+        let slot = self.listed(plan, time, price)?;
+        let quotation = self.quotation_at(board, time);
+        self.in_dynamic(price, quotation, slot)?;
+        self.figures = self.figures.at(time, quotation);
         Ok(())
     }
 
@@ -69,30 +62,27 @@ impl OpenDay {
         ensures answer { result ≡ checked (P.Plan.hours plan.now) (state_of self.old (B.Board.book board.now)) (trade_of time 2 price) }
         ensures after { state_of self.new (B.Board.book board.now) ≡ after_checked (P.Plan.hours plan.now) (state_of self.old (B.Board.book board.now)) (trade_of time 2 price) }
     {
-        let _ = listed(&self.figures, plan, time, price)?;
-        self.figures = OpenFigures {
-            time,
-            quotation: quotation_at(&self.figures, board, time),
-            ..self.figures
-        };
+        let _ = self.listed(plan, time, price)?;
+        self.figures = self.figures.at(time, self.quotation_at(board, time));
         Ok(())
     }
-}
 
-// The marks after a trade of main trading: one in a bounded window of the main session marks the day where it is more than 18%
-// off LP.
-fn marks_after(day: &OpenFigures, price: u32, slot: Slot) -> Marks
-    ensures { result ≡ marked_in day.now price slot }
-{
-    match slot {
-        Slot::Bounded(Session::Main, _) => {
-            let lp = lp(day, Session::Main) as u64;
-            let hundredfold = 100 * price as u64;
-            Marks {
-                upward: day.marks.upward || hundredfold > 118 * lp,
-                downward: day.marks.downward || hundredfold < 82 * lp,
+    // The marks after a trade of main trading: one in a bounded window of the main session marks the day where it is more than 18%
+    // off LP.
+    fn marks_after(&self, price: u32, slot: Slot) -> Marks
+        ensures { result ≡ marked_in self.now.figures price slot }
+    {
+        let marks = self.figures.marks;
+        match slot {
+            Slot::Bounded(Session::Main, _) => {
+                let lp = self.lp(Session::Main) as u64;
+                let hundredfold = 100 * price as u64;
+                Marks {
+                    upward: marks.upward || hundredfold > 118 * lp,
+                    downward: marks.downward || hundredfold < 82 * lp,
+                }
             }
+            _ => marks,
         }
-        _ => day.marks,
     }
 }

@@ -1,14 +1,11 @@
--- The refusals with their numbers, and with what is told beside the number.
+-- The refusals with their numbers, and with what is told beside the number: the place of a fault in a feed.
 use Rattle.std.specs.Prelude.{ℕ, Some, None, Option}
+use Rattle.entry.specs.declared.refusals.Place.{Place}
 use Rattle.entry.specs.declared.refusals.Refusal.{Refusal}
 use Rattle.entry.specs.declared.refusals.Refusal.TheVariants as why
 
--- the record of a feed, from 1, and the bit, from 0 at the feed's start, that a fault is told with
-abbrev pub Place : Type 0
-Place = Option (ℕ × ℕ)
-
--- each refusal's number, and the place told with it
-abbrev pub told : Refusal → ℕ × Place
+-- each refusal's number, and the record and bit that a fault in a feed is told with
+abbrev pub told : Refusal → ℕ × Option Place
 told why.OutOfRange = (1, None)
 told why.BadTime = (2, None)
 told why.NoSession = (3, None)
@@ -22,14 +19,14 @@ told why.TrailShort = (10, None)
 told why.BoardNotEmpty = (11, None)
 told why.WindowOverlaps = (12, None)
 told why.TooManyWindows = (13, None)
-told (why.FeedEnds r b) = (14, Some (r, b))
-told (why.UnknownKind r b) = (15, Some (r, b))
-told (why.SpareBitSet r b) = (16, Some (r, b))
+told (why.FeedEnds p) = (14, Some p)
+told (why.UnknownKind p) = (15, Some p)
+told (why.SpareBitSet p) = (16, Some p)
 told why.FeedTooLong = (17, None)
 told why.OutputShort = (18, None)
 
 abbrev pub number : Refusal → ℕ
 number refusal = (told refusal).0
 
-abbrev pub place : Refusal → Place
+abbrev pub place : Refusal → Option Place
 place refusal = (told refusal).1

@@ -1,7 +1,11 @@
 //! What a day is told, one entry at a time, in raw figures: any figure that fits its type may come, and is judged later.
 #![tactic(auto)]
 
+pub mod codes;
+pub mod kinds;
 pub mod refusals;
+pub mod sides;
+pub mod windows;
 
 /// The side of an order. A higher price is better for a buy, a lower one for a sell.
 #[derive(Clone, Copy, PartialEq, Eq, Debug)]
@@ -19,6 +23,7 @@ pub struct Params {
     pub lr: u32,
 }
 
+// Modes and sessions are numbers here, since any may come and the engine refuses those that are none.
 /// One entry. Times are milliseconds since midnight of the trading day's first calendar day, prices are price units.
 #[derive(Clone, Copy, PartialEq, Eq, Debug)]
 pub enum Entry {

@@ -2,8 +2,15 @@
 ghost use Rattle.std.specs.Prelude.{◌≡◌};
 ghost use Rattle.entry.specs.Refusals.{number, place};
 
+/// Where in a feed a fault is: the number of its record, from 1, and the bit, from 0 at the feed's start.
+#[derive(Clone, Copy, PartialEq, Eq, Debug)]
+pub struct Place {
+    pub number: usize,
+    pub bit: usize,
+}
+
 /// Why an entry or a call is refused. A refused call changes nothing.
-#[derive(Clone, Copy)]
+#[derive(Clone, Copy, PartialEq, Eq, Debug)]
 pub enum Refusal {
     /// A code or figure is outside its range, or LR is above UR.
     OutOfRange,
@@ -31,12 +38,12 @@ pub enum Refusal {
     WindowOverlaps,
     /// It would be the 33rd window.
     TooManyWindows,
-    /// The feed ends inside a record: told with the record's number, from 1, and its first bit in the feed, from 0.
-    FeedEnds { record: usize, bit: usize },
-    /// The record's kind is unknown: told with the record's number and its first bit.
-    UnknownKind { record: usize, bit: usize },
-    /// A spare bit is set: told with the record's number and its first spare bit.
-    SpareBitSet { record: usize, bit: usize },
+    /// The feed ends inside a record: told with the record and its first bit.
+    FeedEnds(Place),
+    /// The record's kind is unknown: told with the record and its first bit.
+    UnknownKind(Place),
+    /// A spare bit is set: told with the record and its first spare bit.
+    SpareBitSet(Place),
     /// The feed has more than 65,536 bytes.
     FeedTooLong,
     /// The output is too short for the record.
@@ -62,22 +69,21 @@ impl Refusal {
             Refusal::BoardNotEmpty => 11,
             Refusal::WindowOverlaps => 12,
             Refusal::TooManyWindows => 13,
-            Refusal::FeedEnds { .. } => 14,
-            Refusal::UnknownKind { .. } => 15,
-            Refusal::SpareBitSet { .. } => 16,
+            Refusal::FeedEnds(_) => 14,
+            Refusal::UnknownKind(_) => 15,
+            Refusal::SpareBitSet(_) => 16,
             Refusal::FeedTooLong => 17,
             Refusal::OutputShort => 18,
         }
     }
 
-    /// Where in a feed the fault is: the record, from 1, and the bit, from 0. None for what is no fault in a feed.
-    pub fn place(self) -> Option<(usize, usize)>
+    /// Where in a feed the fault is. None for what is no fault in a feed.
+    pub fn place(self) -> Option<Place>
         ensures answer { result ≡ place self }
     {
         match self {
-            Refusal::FeedEnds { record, bit }
-            | Refusal::UnknownKind { record, bit }
-            | Refusal::SpareBitSet { record, bit } => Some((record, bit)),
+            Refusal::FeedEnds(place) | Refusal::UnknownKind(place) | Refusal::SpareBitSet(place) =>
+                Some(place),
             _ => None,
         }
     }

@@ -5,8 +5,8 @@ ghost use Rattle.layout.specs.Reading.{taken, next, place_after, seen_after};
 
 use super::record::decode;
 use entry::Entry;
-use entry::refusals::Refusal;
-use layout::kinds::Kind;
+use entry::refusals::{Place, Refusal};
+use layout::kinds;
 
 // The longest feed that is taken, in bytes.
 pub(crate) const LONGEST: usize = 65_536;
@@ -46,6 +46,7 @@ impl<'a> Reader<'a> {
         Ok(())
     }
 
+    // No iterator, since what comes after a fault is the fault again, for ever.
     /// The next entry, or `None` at the feed's end. A fault and the end leave the reader as it was, so that asking
     /// again gives the same answer.
     pub fn next(&mut self) -> Result<Option<Entry>, Refusal>
@@ -58,13 +59,13 @@ impl<'a> Reader<'a> {
         if self.at == self.feed.len() {
             return Ok(None);
         }
-        match decode(&self.feed[self.at..], self.seen + 1, 8 * self.at) {
-            Ok(entry) => {
-                self.at += Kind::of(entry).size();
-                self.seen += 1;
-                Ok(Some(entry))
-            }
-            Err(refusal) => Err(refusal),
-        }
+        let place = Place {
+            number: self.seen + 1,
+            bit: 8 * self.at,
+        };
+        let entry = decode(&self.feed[self.at..], place)?;
+        self.at += kinds::size(entry.into());
+        self.seen += 1;
+        Ok(Some(entry))
     }
 }

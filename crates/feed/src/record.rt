@@ -1,16 +1,23 @@
 // One record: an entry's bits, written and read.
 ghost use Rattle.std.specs.Prelude.{◌≡◌, ℕ, ◌+◌, ◌*◌, ◌<◌, ◌≤◌, length, Ok, OnOk};
+ghost use Rattle.entry.specs.declared.refusals.Place.{Place};
+ghost use Rattle.feed.specs.Cursor.{widths_in, values_in};
 ghost use Rattle.layout.specs.Bits.{AreBytes, fields};
 ghost use Rattle.layout.specs.Layout.{code as code_of, widths as widths_of, side_of, entry_of, size as size_of};
 ghost use Rattle.layout.specs.Reading.{first_record};
 ghost use Rattle.layout.specs.Writing.{answer_with, output_with, answer, output};
 
-use super::cursor::{Cursor, all_fit, put, put_all};
+use super::cursor::{Cursor, all_fit};
 use super::words::bits;
-use entry::refusals::Refusal;
+use entry::kinds::Kind;
+use entry::refusals::{Place, Refusal};
 use entry::{Entry, Params, Side};
-use layout::kinds::Kind;
+use layout::kinds;
 
+// The bytes of the longest record, that of parameters.
+pub(crate) const LONGEST_RECORD: usize = 20;
+
+// The side of a bit. Only a record has sides as bits, so this conversion stands here and not beside the type.
 fn side_of(bit: u32) -> Side
     ensures answer { result ≡ side_of bit }
 {
@@ -20,7 +27,6 @@ fn side_of(bit: u32) -> Side
 // The entry in a whole record.
 fn entry_of(kind: Kind, src: &[u8]) -> Entry
     requires whole { length src.now ≡ size_of kind }
-    requires bytes { AreBytes src.now }
     ensures answer { result ≡ entry_of kind (fields src.now 4 (widths_of kind)) }
 {
     let time = bits(src, 4, 30);
@@ -64,56 +70,47 @@ fn entry_of(kind: Kind, src: &[u8]) -> Entry
     }
 }
 
-// The entry of the first record, which has this number and starts at this bit of its feed.
-pub(crate) fn decode(src: &[u8], number: usize, bit: usize) -> Result<Entry, Refusal>
+// The entry of the first record, which has this place in its feed. The clause `bytes` repeats what the type says, since
+// the reader's proof needs it.
+pub(crate) fn decode(src: &[u8], place: Place) -> Result<Entry, Refusal>
     requires some { 0 < length src.now }
-    requires short { bit ≤ 524288 }
-    ensures answer { result ≡ first_record src.now number bit }
+    requires short { place.bit ≤ 524288 }
+    ensures answer { result ≡ first_record src.now place }
     ensures bytes { AreBytes src.now }
 {
-    let Some(kind) = Kind::from_code(src[0] >> 4) else {
-        return Err(Refusal::UnknownKind {
-            record: number,
-            bit,
-        });
-    };
-    let size = kind.size();
-    if src.len() < size {
-        return Err(Refusal::FeedEnds {
-            record: number,
-            bit,
-        });
-    }
-    let record = &src[0..size];
-    if bits(record, kind.bits(), 8 * size - kind.bits()) != 0 {
-        return Err(Refusal::SpareBitSet {
-            record: number,
-            bit: bit + kind.bits(),
-        });
+    let kind = Kind::try_from(src[0] >> 4).map_err(|_| Refusal::UnknownKind(place))?;
+    let size = kinds::size(kind);
+    let record = src.get(..size).ok_or(Refusal::FeedEnds(place))?;
+    let used = kinds::bits(kind);
+    if bits(record, used, 8 * size - used) != 0 {
+        return Err(Refusal::SpareBitSet(Place {
+            bit: place.bit + used,
+            ..place
+        }));
     }
     Ok(entry_of(kind, record))
 }
 
-// Writes a record of this kind at the start of `out`, and answers its length.
-fn write(out: &mut [u8], kind: Kind, widths: &[u8], values: &[u32]) -> Result<usize, Refusal>
-    requires layout { (widths.now ≡ widths_of kind) × (length values.now ≡ length (widths_of kind)) }
-    ensures answer { result ≡ answer_with (widths_of kind) values.now out.old }
-    ensures after { out.new ≡ output_with (code_of kind) (widths_of kind) values.now out.old }
+// Writes a record of this kind at the start of `out`, and answers its length. A field is its width and its value.
+fn write(out: &mut [u8], kind: Kind, fields: &[(u32, u32)]) -> Result<usize, Refusal>
+    requires layout { widths_in fields.now ≡ widths_of kind }
+    ensures answer { result ≡ answer_with (widths_of kind) (values_in fields.now) out.old }
+    ensures after { out.new ≡ output_with (code_of kind) (widths_of kind) (values_in fields.now) out.old }
 {
-    if !all_fit(widths, values) {
+    if !all_fit(fields) {
         return Err(Refusal::OutOfRange);
     }
-    let size = kind.size();
+    let size = kinds::size(kind);
     if out.len() < size {
         return Err(Refusal::OutputShort);
     }
     let start = Cursor {
         at: 0,
         held: 4,
-        rest: kind.code() as u64,
+        rest: u8::from(kind) as u64,
     };
-    let end = put_all(out, start, widths, values);
-    let _whole = put(out, end, (8 - end.held) % 8, 0);
+    let end = start.put_all(out, fields);
+    let _whole = end.put(out, (8 - end.held) % 8, 0);
     Ok(size)
 }
 
@@ -123,18 +120,18 @@ fn write(out: &mut [u8], kind: Kind, widths: &[u8], values: &[u32]) -> Result<us
 pub fn encode(entry: Entry, out: &mut [u8]) -> Result<usize, Refusal>
     ensures answer { result ≡ answer entry out.old }
     ensures after { out.new ≡ output entry out.old }
-    ensures back { OnOk result ((number bit : ℕ) → first_record out.new number bit ≡ Ok entry) }
+    ensures back { OnOk result ((place : Place) → first_record out.new place ≡ Ok entry) }
 {
     write_entry(entry, out)
 }
 
-// Writes an entry's record: its kind, the widths of its fields, and their values.
+// Writes an entry's record: its kind, and its fields in their order.
 fn write_entry(entry: Entry, out: &mut [u8]) -> Result<usize, Refusal>
     ensures answer { result ≡ answer entry out.old }
     ensures after { out.new ≡ output entry out.old }
 {
     match entry {
-        Entry::Clock { time } => write(out, Kind::Clock, &[30], &[time]),
+        Entry::Clock { time } => write(out, Kind::Clock, &[(30, time)]),
         Entry::Post {
             time,
             side,
@@ -143,14 +140,12 @@ fn write_entry(entry: Entry, out: &mut [u8]) -> Result<usize, Refusal>
         } => write(
             out,
             Kind::Post,
-            &[30, 1, 2, 30],
-            &[time, side as u32, mode as u32, price],
+            &[(30, time), (1, side as u32), (2, mode as u32), (30, price)],
         ),
         Entry::Leave { time, side, price } => write(
             out,
             Kind::Leave,
-            &[30, 1, 30],
-            &[time, side as u32, price],
+            &[(30, time), (1, side as u32), (30, price)],
         ),
         Entry::Trade {
             time,
@@ -160,14 +155,15 @@ fn write_entry(entry: Entry, out: &mut [u8]) -> Result<usize, Refusal>
         } => write(
             out,
             Kind::Trade,
-            &[30, 2, 30, 24],
-            &[time, mode as u32, price, quantity],
+            &[(30, time), (2, mode as u32), (30, price), (24, quantity)],
         ),
-        Entry::Parameters { time, params } => write(
+        Entry::Parameters {
+            time,
+            params: Params { sp, l, ur, lr },
+        } => write(
             out,
             Kind::Parameters,
-            &[30, 30, 30, 30, 30],
-            &[time, params.sp, params.l, params.ur, params.lr],
+            &[(30, time), (30, sp), (30, l), (30, ur), (30, lr)],
         ),
         Entry::Reference {
             time,
@@ -176,9 +172,8 @@ fn write_entry(entry: Entry, out: &mut [u8]) -> Result<usize, Refusal>
         } => write(
             out,
             Kind::Reference,
-            &[30, 3, 30],
-            &[time, session as u32, price],
+            &[(30, time), (3, session as u32), (30, price)],
         ),
-        Entry::Ruling { time, price } => write(out, Kind::Ruling, &[30, 30], &[time, price]),
+        Entry::Ruling { time, price } => write(out, Kind::Ruling, &[(30, time), (30, price)]),
     }
 }

@@ -1,11 +1,12 @@
 // Whole feeds: all that one gives, and a record more behind it.
 ghost use Rattle.std.specs.Prelude.{◌≡◌, ◌⊎◌, List, [], ◌∷◌, ◌++◌, is_ok, IfOk, if◌then◌else◌, None, Ok, Err, Option, OnOk};
 ghost use Rattle.feed.specs.Appending.{appended};
+ghost use Rattle.feed.specs.declared.whole.WriteFault.TheVariants.{Refused, NoMemory};
 ghost use Rattle.layout.specs.Layout.{record_of, feed_of};
 ghost use Rattle.layout.specs.Laws.{ReadWhole, Holds};
 
 use super::reader::{LONGEST, Reader};
-use super::record::encode;
+use super::record::{LONGEST_RECORD, encode};
 use entry::Entry;
 use entry::refusals::Refusal;
 use std::alloc::{AllocError, Global};
@@ -18,10 +19,26 @@ pub struct Readings {
 }
 
 /// Why a record is not put behind a feed.
-#[derive(Clone, Copy)]
+#[derive(Clone, Copy, PartialEq, Eq, Debug)]
 pub enum WriteFault {
     Refused(Refusal),
     NoMemory,
+}
+
+impl From<Refusal> for WriteFault {
+    ghost from_gives = { λ refusal result. result ≡ Refused refusal };
+
+    fn from(refusal: Refusal) -> WriteFault {
+        WriteFault::Refused(refusal)
+    }
+}
+
+impl From<AllocError> for WriteFault {
+    ghost from_gives = { λ _ result. result ≡ NoMemory };
+
+    fn from(_error: AllocError) -> WriteFault {
+        WriteFault::NoMemory
+    }
 }
 
 /// Reads a whole feed, which can be read in one way only. If it has no fault, the records of its entries, one behind the other, are the feed again.
@@ -38,24 +55,14 @@ pub fn read(heap: Global, feed: &[u8]) -> Result<Readings, AllocError>
             fault: Some(refusal),
         });
     }
-    loop {
-        let found = match reader.next() {
-            Ok(found) => found,
-            Err(refusal) => {
-                return Ok(Readings {
-                    entries,
-                    fault: Some(refusal),
-                });
-            }
-        };
-        let Some(entry) = found else {
-            return Ok(Readings {
-                entries,
-                fault: None,
-            });
-        };
-        entries.push(entry)?;
-    }
+    let fault = loop {
+        match reader.next() {
+            Ok(Some(entry)) => entries.push(entry)?,
+            Ok(None) => break None,
+            Err(refusal) => break Some(refusal),
+        }
+    };
+    Ok(Readings { entries, fault })
 }
 
 /// Puts an entry's record behind a feed. A figure wider than its field is refused, and so is a record that would make the
@@ -66,16 +73,12 @@ pub fn append(feed: &mut Vec<u8>, entry: Entry) -> Result<(), WriteFault>
     ensures after { feed.new.items ≡ (if is_ok result then feed.old.items ++ record_of entry else feed.old.items) }
     ensures holds { OnOk result ((es : List Entry) → Holds feed.old.items es → Holds feed.new.items (es ++ (entry ∷ []))) }
 {
-    let mut record = [0; 20];
-    let size = match encode(entry, &mut record) {
-        Ok(size) => size,
-        Err(refusal) => return Err(WriteFault::Refused(refusal)),
-    };
+    // The record is written in fixed memory first, since `encode` serves callers that have no heap.
+    let mut record = [0; LONGEST_RECORD];
+    let size = encode(entry, &mut record)?;
     if feed.len() > LONGEST - size {
-        return Err(WriteFault::Refused(Refusal::FeedTooLong));
+        return Err(Refusal::FeedTooLong.into());
     }
-    match feed.extend_from_slice(&record[0..size]) {
-        Ok(()) => Ok(()),
-        Err(_) => Err(WriteFault::NoMemory),
-    }
+    feed.extend_from_slice(&record[..size])?;
+    Ok(())
 }

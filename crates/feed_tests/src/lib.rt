@@ -3,11 +3,11 @@
 
 #[cfg(test)]
 mod tests {
-    use entry::refusals::Refusal;
+    use entry::refusals::{Place, Refusal};
     use entry::{Entry, Params, Side};
     use feed::reader::Reader;
     use feed::record::encode;
-    use feed::whole::{WriteFault, append, read};
+    use feed::whole::{append, read};
     use std::alloc::Global;
     use std::process::Abort;
     use std::test::Fail;
@@ -68,23 +68,9 @@ mod tests {
     fn feed_of(rt: &impl Abort, heap: Global, entries: &[Entry]) -> Vec<u8> {
         let mut feed = Vec::new(heap);
         for entry in entries {
-            match append(&mut feed, *entry) {
-                Ok(()) => {}
-                Err(WriteFault::Refused(refusal)) => {
-                    assert_eq!(rt; refusal.number(), 0);
-                }
-                Err(WriteFault::NoMemory) => assert!(rt; false),
-            }
+            assert!(rt; append(&mut feed, *entry) == Ok(()));
         }
         feed
-    }
-
-    // The number of a refusal and the place told with it; 0 for none.
-    fn told(fault: Option<Refusal>) -> (u8, Option<(usize, usize)>) {
-        match fault {
-            Some(refusal) => (refusal.number(), refusal.place()),
-            None => (0, None),
-        }
     }
 
     // The feed gives these entries, and then this fault or its end.
@@ -96,11 +82,8 @@ mod tests {
         fault: Option<Refusal>,
     ) -> Result<(), Fail> {
         let readings = read(heap, feed)?;
-        assert!(rt; told(readings.fault) == told(fault));
-        assert_eq!(rt; readings.entries.len(), entries.len());
-        for (got, wanted) in readings.entries.iter().zip(entries.iter()) {
-            assert!(rt; *got == *wanted);
-        }
+        assert!(rt; readings.fault == fault);
+        assert!(rt; readings.entries.as_slice() == entries);
         Ok(())
     }
 
@@ -113,7 +96,7 @@ mod tests {
             mode: 0,
             price: 1_000_000,
         };
-        assert!(rt; encode(entry, &mut out).ok() == Some(9));
+        assert!(rt; encode(entry, &mut out) == Ok(9));
         assert_eq!(rt;
             out,
             [0x10, 0x89, 0x54, 0x40, 0x00, 0x01, 0xE8, 0x48, 0x00, 0xFF]
@@ -149,10 +132,11 @@ mod tests {
             // A clock has no price; the clock, leave, parameters and ruling have no code and no quantity.
             let fits = matches!(i, 7 | 14 | 16 | 18 | 20);
             let mut out = [0xFF; 20];
-            let answer = encode(*entry, &mut out);
-            assert!(rt; answer.is_ok() == fits);
-            if let Err(refusal) = answer {
-                assert_eq!(rt; refusal.number(), 1);
+            let answer = encode(*entry, &mut out).map_err(|why| why.number());
+            if fits {
+                assert!(rt; answer.is_ok());
+            } else {
+                assert!(rt; answer == Err(1));
                 assert_eq!(rt; out, [0xFF; 20]);
             }
         }
@@ -162,15 +146,13 @@ mod tests {
     fn output_one_byte_short(rt: HostRuntime) {
         for entry in samples() {
             let mut out = [0xFF; 20];
-            let size = encode(entry, &mut out).ok().unwrap_or(0);
+            let size = encode(entry, &mut out).expect(&rt, "a sample's record");
             assert!(rt; 0 < size && size <= 20);
             let mut short = [0xFF; 20];
-            match encode(entry, &mut short[0..size - 1]) {
-                Ok(_) => assert!(rt; false),
-                Err(refusal) => assert_eq!(rt; refusal.number(), 18),
-            }
+            let answer = encode(entry, &mut short[..size - 1]).map_err(|why| why.number());
+            assert!(rt; answer == Err(18));
             assert_eq!(rt; short, [0xFF; 20]);
-            assert!(rt; encode(entry, &mut short[0..size]).ok() == Some(size));
+            assert!(rt; encode(entry, &mut short[..size]) == Ok(size));
             assert_eq!(rt; short, out);
         }
     }
@@ -181,23 +163,21 @@ mod tests {
         let entries = samples();
         let feed = feed_of(&rt, heap, &entries);
         assert!(rt; feed.len() == 72);
-        for (k, start) in STARTS.iter().enumerate() {
-            for n in *start..feed.len() + 1 {
-                if k + 1 < 8 && n >= STARTS[(k + 1) % 8] {
-                    break;
-                }
+        for (k, (start, next)) in STARTS.iter().zip(STARTS[1..].iter()).enumerate() {
+            assert!(rt; k < 7 && *next <= feed.len());
+            for n in *start..*next {
                 let fault = if n == *start {
                     None
                 } else {
-                    Some(Refusal::FeedEnds {
-                        record: k + 1,
+                    Some(Refusal::FeedEnds(Place {
+                        number: k + 1,
                         bit: 8 * *start,
-                    })
+                    }))
                 };
-                gives(&rt, heap, &feed.as_slice()[0..n], &entries[0..k], fault)?;
+                gives(&rt, heap, &feed.as_slice()[..n], &entries[..k], fault)?;
             }
         }
-        Ok(())
+        gives(&rt, heap, feed.as_slice(), &entries, None)
     }
 
     // A feed with one bit changed, which lies so many bits into a record of the samples.
@@ -216,10 +196,10 @@ mod tests {
             *byte ^= 0x80 >> ((start + bit) % 8);
         }
         if bit >= BITS[record] {
-            let fault = Refusal::SpareBitSet {
-                record: record + 1,
+            let fault = Refusal::SpareBitSet(Place {
+                number: record + 1,
                 bit: start.saturating_add(BITS[record]),
-            };
+            });
             return gives(rt, heap, bytes.as_slice(), &entries[0..record], Some(fault));
         }
         let readings = read(heap, bytes.as_slice())?;
@@ -241,6 +221,7 @@ mod tests {
         let heap = rt.alloc();
         let entries = samples();
         let feed = feed_of(&rt, heap, &entries);
+        // By number, since several tables are read at a record's number.
         for record in 0..7usize {
             for bit in 0..8 * (STARTS[record + 1] - STARTS[record]) {
                 flipped(&rt, heap, feed.as_slice(), record, bit, &entries)?;
@@ -253,23 +234,22 @@ mod tests {
     fn empty_feed(rt: HostRuntime) {
         let mut reader = Reader::new();
         for _ in 0..3 {
-            assert!(rt; matches!(reader.next(), Ok(None)));
+            assert!(rt; reader.next() == Ok(None));
         }
-        assert!(rt; reader.take(&[]).is_ok());
-        assert!(rt; matches!(reader.next(), Ok(None)));
+        assert!(rt; reader.take(&[]) == Ok(()));
+        assert!(rt; reader.next() == Ok(None));
     }
 
     #[test]
     fn a_fault_is_told_again(rt: HostRuntime) {
         let feed = [0x00, 0x89, 0x59, 0x22, 0x00, 0x70];
         let mut reader = Reader::new();
-        assert!(rt; reader.take(&feed).is_ok());
-        assert!(rt; matches!(reader.next(), Ok(Some(Entry::Clock { time: 36_005_000 }))));
+        assert!(rt; reader.take(&feed) == Ok(()));
+        assert!(rt; reader.next() == Ok(Some(Entry::Clock { time: 36_005_000 })));
         for _ in 0..3 {
-            match reader.next() {
-                Ok(_) => assert!(rt; false),
-                Err(refusal) => assert!(rt; told(Some(refusal)) == (15, Some((2, 40)))),
-            }
+            let told = reader.next().map_err(|why| (why.number(), why.place()));
+            let place = Place { number: 2, bit: 40 };
+            assert!(rt; told == Err((15, Some(place))));
         }
     }
 
@@ -279,16 +259,14 @@ mod tests {
         let ruling = Entry::Ruling { time: 1, price: 2 };
         let mut feed = Vec::new(heap);
         for _ in 0..8_192 {
-            assert!(rt; matches!(append(&mut feed, ruling), Ok(())));
+            assert!(rt; append(&mut feed, ruling) == Ok(()));
         }
         assert_eq!(rt; feed.len(), 65_536);
         let readings = read(heap, feed.as_slice())?;
         assert!(rt; readings.fault.is_none());
         assert_eq!(rt; readings.entries.len(), 8_192);
-        match append(&mut feed, ruling) {
-            Err(WriteFault::Refused(refusal)) => assert_eq!(rt; refusal.number(), 17),
-            _ => assert!(rt; false),
-        }
+        assert!(rt; append(&mut feed, ruling) == Err(Refusal::FeedTooLong.into()));
+        assert_eq!(rt; Refusal::FeedTooLong.number(), 17);
         assert_eq!(rt; feed.len(), 65_536);
         feed.push(0)?;
         gives(&rt, heap, feed.as_slice(), &[], Some(Refusal::FeedTooLong))

@@ -1,14 +1,16 @@
 -- A side's levels against its cells: what reading and writing one cell means for the list.
-use Rattle.std.proofs.Common.{◌≡◌, ℕ, zero, suc, ◌+◌, ◌<◌, ◌≤◌, false, eqb, ltb, leb, List, [], ◌∷◌, length, drop, set, Some, None, refl, ap, ◌∙◌, inl, inr, arith}
+use Rattle.std.proofs.Common.{◌≡◌, ℕ, zero, suc, ◌+◌, ◌<◌, ◌≤◌, true, false, eqb, ltb, leb, cond, List, [], ◌∷◌, length, drop, set, Some, None, Option, MatchOption, Ok, Result, refl, ap, ◌∙◌, inl, inr, arith}
 use Rattle.std.proofs.lemmas.Bool.Decides.{nat_tests}
 use Rattle.std.proofs.lemmas.Bool.{cases_Bool}
 use Rattle.entry.specs.declared.Side.{Side}
 use Rattle.entry.specs.declared.Side.TheVariants.{Buy, Sell}
-use Rattle.board.specs.Levels.{new_level}
+use Rattle.board.specs.Levels.{new_level, more_answer, less_answer, left, single}
+use Rattle.board.specs.declared.faults.BoardFault.{BoardFault}
+use Rattle.board.specs.declared.levels.Level.{Level}
 use Rattle.board.specs.Book.{first, better, level_at, next_after}
 use Rattle.board.specs.Calls.{added, taken}
 use Rattle.grid.specs.declared.cells.Cell.{Cell}
-use Rattle.grid.specs.Ranks.{cell_at, price_at, ranks_to, level_in, seen, levels, more, less, first_of}
+use Rattle.grid.specs.Ranks.{no_order, cell_at, price_at, ranks_to, seen, level_in, holding, levels, first_of}
 
 -- prices compare as their ranks do
 pub better_rank : (s : Side) (start i j : ℕ) → i < 256 → j < 256 → better s (price_at s start i) (price_at s start j) ≡ ltb i j
@@ -53,21 +55,36 @@ front s start t i k (c ∷ cs) m n =
     let b = better_rank s start i k (omega arith) (omega arith) in
     grind (arith, nat_tests)
 
-pub raise_rank : (s : Side) (start t i k j : ℕ) (cs : List Cell) → i ≡ k + j → j < length cs → k + length cs ≤ 256 → added s (price_at s start i) t (levels s start k cs) ≡ levels s start k (set cs j (more t (cell_at cs j)))
-raise_rank s start t i k j [] e m n = absurd (omega arith)
-raise_rank s start t i k zero (c ∷ cs) e m n =
+-- the level after one order more at price p
+abbrev pub raised : ℕ → ℕ → Option Level → Result Level BoardFault
+raised p t None = Ok (new_level p t)
+raised p t (Some x) = more_answer x
+
+-- the cell after one order less
+abbrev pub lowered : Level → Cell
+lowered x = cond (single x) no_order (holding (left x))
+
+pub lowered_is : (x : Level) (c d : Cell) → d ≡ no_order → MatchOption (less_answer x) (c ≡ d) (λ y. c ≡ holding y) → c ≡ lowered x
+lowered_is x c d e = elim (single x) as (λ b. MatchOption (cond b None (Some (left x))) (c ≡ d) (λ y. c ≡ holding y) → c ≡ cond b no_order (holding (left x))) [
+  | true ↦ λ h. h ∙ e
+  | false ↦ λ h. h
+]
+
+pub raise_rank : (s : Side) (start t i k j : ℕ) (cs : List Cell) (x : Level) → i ≡ k + j → j < length cs → k + length cs ≤ 256 → raised (price_at s start i) t (seen (price_at s start i) (cell_at cs j)) ≡ Ok x → added s (price_at s start i) t (levels s start k cs) ≡ levels s start k (set cs j (holding x))
+raise_rank s start t i k j [] x e m n w = absurd (omega arith)
+raise_rank s start t i k zero (c ∷ cs) x e m n w =
     let o : i ≡ k = omega arith in
     let z = front s start t i (suc k) cs (omega arith) (omega arith) in
     let q = same_rank s start k i (omega arith) (omega arith) in
     let r : price_at s start i ≡ price_at s start k = ap (price_at s start) o in
     grind (arith, nat_tests)
-raise_rank s start t i k (suc j) (c ∷ cs) e m n =
-    let ih = raise_rank s start t i (suc k) j cs (omega arith) (omega arith) (omega arith) in
+raise_rank s start t i k (suc j) (c ∷ cs) x e m n w =
+    let ih = raise_rank s start t i (suc k) j cs x (omega arith) (omega arith) (omega arith) w in
     let q = same_rank s start k i (omega arith) (omega arith) in
     let b = better_rank s start i k (omega arith) (omega arith) in
     grind (arith, nat_tests)
 
-pub lower_rank : (s : Side) (start i k j : ℕ) (cs : List Cell) → i ≡ k + j → j < length cs → k + length cs ≤ 256 → 0 < (cell_at cs j).orders → taken (price_at s start i) (levels s start k cs) ≡ levels s start k (set cs j (less (cell_at cs j)))
+pub lower_rank : (s : Side) (start i k j : ℕ) (cs : List Cell) → i ≡ k + j → j < length cs → k + length cs ≤ 256 → 0 < (cell_at cs j).orders → taken (price_at s start i) (levels s start k cs) ≡ levels s start k (set cs j (lowered (level_in (price_at s start i) (cell_at cs j))))
 lower_rank s start i k j [] e m n w = absurd (omega arith)
 lower_rank s start i k zero (c ∷ cs) e m n w =
     let o : i ≡ k = omega arith in
@@ -90,17 +107,17 @@ room-left s start k zero (c ∷ cs) m w = let f = fewer s start (suc k) cs in gr
 room-left s start k (suc j) (c ∷ cs) m w = let ih = room-left s start (suc k) j cs (omega arith) w in grind (arith, nat_tests)
 
 -- the first cell that stands is the best level
-pub best_rank : (s : Side) (start k i : ℕ) (cs : List Cell) → first_of k cs ≡ Some i → (j : ℕ) × (i ≡ k + j) × (j < length cs) × (first (levels s start k cs) ≡ Some (level_in (price_at s start i) (cell_at cs j)))
+pub best_rank : (s : Side) (start k i : ℕ) (cs : List Cell) → first_of k cs ≡ Some i → (j : ℕ) × (i ≡ k + j) × (first (levels s start k cs) ≡ seen (price_at s start i) (cell_at cs j))
 best_rank s start k i [] e = absurd (let z : ◌≡◌ {A = ℕ} 0 1 = cc in omega arith)
 best_rank s start k i (c ∷ cs) e =
     elim (cases_Bool (eqb c.orders 0)) [
       | inl t ↦
           let e' : first_of (suc k) cs ≡ Some i = grind (arith, nat_tests) in
           let ih = best_rank s start (suc k) i cs e' in
-          (suc ih.0, omega arith, omega arith, (let r = ih.3 in grind (arith, nat_tests)))
+          (suc ih.0, omega arith, (let r = ih.2 in grind (arith, nat_tests)))
       | inr f ↦
           let e' : k ≡ i = grind (arith, nat_tests) in
-          (0, omega arith, omega arith, grind (arith, nat_tests))
+          (0, omega arith, grind (arith, nat_tests))
     ]
 
 pub best_none : (s : Side) (start k : ℕ) (cs : List Cell) → first_of k cs ≡ None → first (levels s start k cs) ≡ None

@@ -1,14 +1,14 @@
 -- A word of marks: its leading zeros find the first cell that stands, and a cell that comes to stand or falls flips one bit.
-use Rattle.std.proofs.Common.{◌≡◌, ℕ, zero, suc, ◌+◌, ◌-◌, ◌*◌, ◌/◌, ◌%◌, ◌^◌, ◌<◌, ◌≤◌, true, false, cond, not, eqb, ltb, ◌≢◌, List, [], ◌∷◌, length, get_or, drop, set, replicate, Some, Option, sym, refl, ap, ◌∙◌, subst, ap₂, inl, inr, mod-eq_of_lt, mul_assoc, add-mul, pow-suc, arith, pow_pos}
-use mathlib.Core.Bool.{beq}
+use Rattle.std.proofs.Common.{◌≡◌, ℕ, zero, suc, ◌+◌, ◌-◌, ◌*◌, ◌/◌, ◌%◌, ◌^◌, ◌<◌, ◌≤◌, cond, not, eqb, ltb, ◌≢◌, List, [], ◌∷◌, length, get_or, take, drop, set, replicate, None, Some, Option, sym, refl, ap, ◌∙◌, subst, ap₂, inl, inr, mod-eq_of_lt, mul_assoc, add-mul, pow-suc, arith, pow_pos}
+use Rattle.std.specs.List.{position, position_or_len}
 use native.Mathlib.Nat.{zero-mod, mul-add-mod_self_right}
 use lib.Bits.{bit_and, bit_xor, xor_block, xor_zero_r}
 use lib.Pow.{pow-lt}
 use Rattle.std.proofs.lemmas.Nat.{pow-add, and_mask, shr_high}
 use lib.Count.{count_leading_zeros, leading_unique, leading_length}
 use Rattle.std.proofs.lemmas.Bool.Decides.{nat_tests}
-use Rattle.std.proofs.lemmas.Bool.{cases_lt, cases_order}
-use Rattle.std.proofs.lemmas.List.{drop-set-lt, drop-set-add, get_or-drop, get_or-set_same, get_or-set_other, length-drop, drop-drop}
+use Rattle.std.proofs.lemmas.Bool.{cases_lt, cases_order, cases_Bool}
+use Rattle.std.proofs.lemmas.List.{take_all, drop-set-lt, drop-set-add, get_or-drop, get_or-set_same, get_or-set_other, length-drop, drop-drop}
 use Rattle.grid.specs.declared.cells.Cell.{Cell}
 use Rattle.grid.specs.Ranks.{no_order, cell_at, first_of, bit, word, Marks}
 
@@ -185,9 +185,44 @@ marks_flip ms cs i v c k m n p e x w l =
           get_or-set_other ms (i / 64) w v 0 ne ∙ (k w l ∙ sym (ap (word 64) (drop-set-lt (64 * w) cs i c (omega arith))))
     ]
 
--- the code's tests, as bits
-pub stood_same : (c d : Cell) → not (beq (ltb 0 c.orders) (ltb 0 d.orders)) ≡ false → bit d ≡ bit c
-stood_same c d e = grind (arith, nat_tests)
+-- the first rank stands in the first word with a mark, at its leading zeros
+abbrev first_mark : List ℕ → ℕ
+first_mark ms = position_or_len (λ m. not (eqb m 0)) ms
 
-pub stood_other : (c d : Cell) → not (beq (ltb 0 c.orders) (ltb 0 d.orders)) ≡ true → bit c + bit d ≡ 1
-stood_other c d e = grind (arith, nat_tests)
+first_in_words : (ms : List ℕ) (k : ℕ) (cs : List Cell) → ((w : ℕ) → w < length ms → get_or ms w 0 ≡ word 64 (drop (64 * w) cs)) → length cs ≤ 64 * length ms → first_of k cs ≡ cond (ltb (first_mark ms) (length ms)) (Some (k + 64 * first_mark ms + count_leading_zeros 64 (get_or ms (first_mark ms) 0))) None
+first_in_words [] k [] h n = refl
+first_in_words [] k (c ∷ cs) h n = absurd (omega arith)
+first_in_words (m ∷ ms) k cs h n =
+    let f = first_word 64 k cs in
+    let z : m ≡ word 64 cs = h 0 (omega arith) in
+    let g : (w : ℕ) → w < length ms → get_or ms w 0 ≡ word 64 (drop (64 * w) (drop 64 cs)) = λ w l. h (suc w) (omega arith) ∙ sym (ap (word 64) (drop-drop (64 * w) 64 cs ∙ ap (λ (y : ℕ). drop y cs) (omega arith))) in
+    let ih = first_in_words ms (k + 64) (drop 64 cs) g (omega (arith, length-drop 64 cs)) in
+    grind (arith, nat_tests)
+
+-- the rank that a word past the first ones has, where the j-th of the others is the first with a mark
+abbrev pub rank_past : List ℕ → ℕ → Option ℕ → Option ℕ
+rank_past ms from None = None
+rank_past ms from (Some j) = Some (64 * (from + j) + count_leading_zeros 64 (get_or ms (from + j) 0))
+
+pub first_past : (ms : List ℕ) (cs : List Cell) (from : ℕ) → Marks ms cs → length ms ≡ 4 → length cs ≡ 256 → from ≤ 4 → first_of (64 * from) (drop (64 * from) cs) ≡ rank_past ms from (position (λ m. not (eqb m 0)) (take (4 - from) (drop from ms)))
+first_past ms cs from h m n l =
+    let d = length-drop from ms in
+    let g : (w : ℕ) → w < length (drop from ms) → get_or (drop from ms) w 0 ≡ word 64 (drop (64 * w) (drop (64 * from) cs)) = λ w b. get_or-drop from ms w 0 ∙ (h (from + w) (omega arith) ∙ sym (ap (word 64) (drop-drop (64 * w) (64 * from) cs ∙ ap (λ (y : ℕ). drop y cs) (omega arith)))) in
+    let f = first_in_words (drop from ms) (64 * from) (drop (64 * from) cs) g (omega (arith, length-drop (64 * from) cs)) in
+    let e = get_or-drop from ms (first_mark (drop from ms)) 0 in
+    let t = ap (position (λ m. not (eqb m 0))) (take_all (4 - from) (drop from ms) (omega arith)) in
+    let q : first_of (64 * from) (drop (64 * from) cs) ≡ rank_past ms from (position (λ m. not (eqb m 0)) (drop from ms)) = grind (arith, nat_tests) in
+    q ∙ sym (ap (rank_past ms from) t)
+
+pub first_below : (k i : ℕ) (cs : List Cell) → first_of k cs ≡ Some i → i < k + length cs
+first_below k i [] e = absurd (let z : ◌≡◌ {A = ℕ} 0 1 = cc in omega arith)
+first_below k i (c ∷ cs) e =
+    elim (cases_Bool (eqb c.orders 0)) [
+      | inl t ↦
+          let e' : first_of (k + 1) cs ≡ Some i = grind (arith, nat_tests) in
+          let ih = first_below (k + 1) i cs e' in
+          omega arith
+      | inr f ↦
+          let e' : k ≡ i = grind (arith, nat_tests) in
+          omega arith
+    ]

@@ -34,6 +34,10 @@ level_in p c = record { price = p; orders = c.orders; since = c.since }
 abbrev pub seen : ℕ → Cell → Option Level
 seen p c = cond (c.orders == 0) None (Some (level_in p c))
 
+-- the cell that holds a level
+abbrev pub holding : Level → Cell
+holding x = record { orders = x.orders; since = x.since }
+
 -- the levels that the cells hold, where the first cell has rank k
 abbrev pub levels : Side → ℕ → ℕ → List Cell → List Level
 levels s start k [] = []
@@ -44,17 +48,6 @@ levels s start k (c ∷ cs) =
 abbrev pub book_over : ℕ → List Cell → List Cell → Book
 book_over start bids asks =
     record { low = start; high = start + 255; room = 256; buys = levels Buy start 0 bids; sells = levels Sell start 0 asks }
-
-abbrev pub side_over : Side → List Cell → List Cell → List Cell
-side_over Buy bids asks = bids
-side_over Sell bids asks = asks
-
--- a cell with one order more, and with one less
-abbrev pub more : ℕ → Cell → Cell
-more t c = record { orders = c.orders + 1; since = cond (c.orders == 0) t c.since }
-
-abbrev pub less : Cell → Cell
-less c = record { orders = c.orders - 1; since = c.since }
 
 -- the first rank whose cell holds a level, where the first cell has rank k
 abbrev pub first_of : ℕ → List Cell → Option ℕ

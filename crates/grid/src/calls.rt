@@ -1,16 +1,17 @@
 // The grid's first test, its making, and its calls as a board.
-ghost use Rattle.std.specs.Prelude.{◌≡◌, ◌+◌, ◌<◌, false, [], drop, Some, None, Ok, slice_set};
+ghost use Rattle.std.specs.Prelude.{◌≡◌, ◌+◌, false, [], drop, MatchOption, slice_set};
 ghost use Rattle.board.specs.Book.{empty_book, with_levels, first};
 ghost use Rattle.grid.specs.Start.{start_answer};
 ghost use Rattle.grid.specs.Ranks.{cell_at, first_of, levels, price_at, ranks_to, in_range};
 ghost use Rattle.grid.specs.Holding.{grid_book, cells_of};
 
-use crate::Grid;
 use crate::cells::Cell;
 use crate::side_cells::SideCells;
+use crate::{Grid, PRICES};
 use board::{Board, BoardFault, Level};
 use entry::Side;
 use entry::refusals::Refusal;
+use entry::sides::Sides;
 
 /// The lowest price at which a grid may start.
 pub const FIRST_START: u32 = 1;
@@ -23,7 +24,7 @@ impl Grid {
     pub fn test(start: u32) -> Result<(), Refusal>
         ensures answer { result ≡ start_answer start }
     {
-        if start >= FIRST_START && start <= LAST_START {
+        if (FIRST_START..=LAST_START).contains(&start) {
             Ok(())
         } else {
             Err(Refusal::OutOfRange)
@@ -37,96 +38,64 @@ impl Grid {
     {
         Grid {
             start,
-            buys: SideCells::new(),
-            sells: SideCells::new(),
+            sides: Sides {
+                buy: SideCells::new(),
+                sell: SideCells::new(),
+            },
         }
     }
 
     // The rank of a price, best first, if the price is in the range.
-    fn rank(&self, side: Side, price: u32) -> Option<usize>
-        ensures { elim result [ Some i ↦ (i < 256) × (price ≡ price_at side self.now.start i) | None ↦ in_range self.now.start price ≡ false ] }
+    fn rank(&self, side: Side, price: u32) -> Option<u8>
+        ensures { MatchOption result (in_range self.now.start price ≡ false) (λ i. price ≡ price_at side self.now.start i) }
     {
-        if price < self.start {
-            return None;
-        }
-        let up = (price - self.start) as usize;
-        if up > 255 {
-            return None;
-        }
-        match side {
-            Side::Buy => Some(255 - up),
-            Side::Sell => Some(up),
-        }
+        let up = u8::try_from(price.checked_sub(self.start)?).ok()?;
+        Some(match side {
+            Side::Buy => u8::MAX - up,
+            Side::Sell => up,
+        })
     }
 
     // How many ranks are as good as a price or better; past 256, all of them.
-    fn ranks_to(&self, side: Side, price: u32) -> usize
+    fn ranks_to(&self, side: Side, price: u32) -> u32
         ensures { result ≡ ranks_to side self.now.start price }
     {
-        let start = self.start as usize;
-        let price = price as usize;
         match side {
-            Side::Buy => (start + 256).saturating_sub(price),
-            Side::Sell => (price + 1).saturating_sub(start),
+            Side::Buy => (self.start + PRICES as u32).saturating_sub(price),
+            Side::Sell => price.saturating_sub(self.start - 1),
         }
     }
 
     // The price of a rank.
-    fn price(&self, side: Side, rank: usize) -> u32
-        requires { rank < 256 }
+    fn price(&self, side: Side, rank: u8) -> u32
         ensures { result ≡ price_at side self.now.start rank }
     {
         match side {
-            Side::Buy => self.start + (255 - rank as u32),
-            Side::Sell => self.start + rank as u32,
+            Side::Buy => self.start + u32::from(u8::MAX - rank),
+            Side::Sell => self.start + u32::from(rank),
         }
     }
 
     // The cell of a side at a rank.
-    fn get(&self, side: Side, rank: usize) -> Cell
-        requires { rank < 256 }
+    fn get(&self, side: Side, rank: u8) -> Cell
         ensures { result ≡ cell_at (cells_of side self.now) rank }
     {
-        match side {
-            Side::Buy => self.buys.get(rank),
-            Side::Sell => self.sells.get(rank),
-        }
+        self.sides.of(side).get(rank)
     }
 
     // Stores a cell of a side at a rank.
-    fn put(&mut self, side: Side, rank: usize, cell: Cell)
-        requires { rank < 256 }
+    fn put(&mut self, side: Side, rank: u8, cell: Cell)
         ensures { grid_book self.new ≡ with_levels (grid_book self.old) side (levels side self.old.start 0 (slice_set (cells_of side self.old) rank cell)) }
     {
-        match side {
-            Side::Buy => self.buys.put(rank, cell),
-            Side::Sell => self.sells.put(rank, cell),
-        }
-    }
-
-    // The first rank of a side, from a rank on, whose cell holds a level.
-    fn first_from(&self, side: Side, from: usize) -> Option<usize>
-        ensures { result ≡ first_of from (drop from (cells_of side self.now)) }
-    {
-        match side {
-            Side::Buy => self.buys.first_from(from),
-            Side::Sell => self.sells.first_from(from),
-        }
+        self.sides.of_mut(side).put(rank, cell);
     }
 
     // The best level of a side from a rank on.
-    fn best_from(&self, side: Side, from: usize) -> Option<Level>
+    fn best_from(&self, side: Side, from: u8) -> Option<Level>
         ensures { result ≡ first (levels side self.now.start from (drop from (cells_of side self.now))) }
     {
-        let Some(rank) = self.first_from(side, from) else {
-            return None;
-        };
-        let cell = self.get(side, rank);
-        Some(Level {
-            price: self.price(side, rank),
-            orders: cell.orders,
-            since: cell.since,
-        })
+        let rank = self.sides.of(side).first_from(from)?;
+        self.get(side, rank).level(self.price(side, rank))
     }
 }
 
@@ -142,46 +111,31 @@ impl Board for Grid {
     }
 
     fn at(&self, side: Side, price: u32) -> Option<Level> {
-        let Some(rank) = self.rank(side, price) else {
-            return None;
-        };
-        let cell = self.get(side, rank);
-        if cell.orders == 0 {
-            return None;
-        }
-        Some(Level {
-            price,
-            orders: cell.orders,
-            since: cell.since,
-        })
+        let rank = self.rank(side, price)?;
+        self.get(side, rank).level(price)
     }
 
     fn next(&self, side: Side, price: u32) -> Option<Level> {
-        let from = self.ranks_to(side, price);
+        let from = u8::try_from(self.ranks_to(side, price)).ok()?;
         self.best_from(side, from)
     }
 
     fn add(&mut self, side: Side, price: u32, time: u32) -> Result<(), BoardFault> {
-        let Some(rank) = self.rank(side, price) else {
-            return Err(BoardFault::NoPlace);
+        let rank = self.rank(side, price).ok_or(BoardFault::NoPlace)?;
+        let level = match self.get(side, rank).level(price) {
+            Some(level) => level.one_more()?,
+            None => Level::new(price, time),
         };
-        let cell = self.get(side, rank);
-        if cell.is_full() {
-            return Err(BoardFault::LevelFull);
-        }
-        self.put(side, rank, cell.one_more(time));
+        self.put(side, rank, Cell::from(level));
         Ok(())
     }
 
     fn take(&mut self, side: Side, price: u32) -> Result<(), BoardFault> {
-        let Some(rank) = self.rank(side, price) else {
-            return Err(BoardFault::NothingThere);
-        };
+        let rank = self.rank(side, price).ok_or(BoardFault::NothingThere)?;
         let cell = self.get(side, rank);
-        if cell.orders == 0 {
-            return Err(BoardFault::NothingThere);
-        }
-        self.put(side, rank, cell.one_less());
+        let level = cell.level(price).ok_or(BoardFault::NothingThere)?;
+        let left = level.one_less().map_or(Cell::default(), Cell::from);
+        self.put(side, rank, left);
         Ok(())
     }
 }

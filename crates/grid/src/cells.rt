@@ -1,44 +1,50 @@
-// A cell of the grid, and what an order more or less makes of it.
-ghost use Rattle.std.specs.Prelude.{◌≡◌, ◌<◌, nat_le};
-ghost use Rattle.grid.specs.Ranks.{more, less};
+// A cell of the grid, and the level that it holds.
+ghost use Rattle.std.specs.Prelude.{◌≡◌, ◌==◌};
+ghost use Rattle.grid.specs.Ranks.{seen, holding};
 
-use board::levels::MOST_ORDERS;
+use board::Level;
 
 // What a price of a side holds: no order, or the orders of a level and since when it stands.
-#[derive(Clone, Copy)]
+// The number 0 says that no level stands, since a board is fixed memory: with a tag of its own an `Option<Cell>` has 12 bytes and not 8,
+// which is 3,072 for the 256 cells of a side and not 2,048. An `Option` of the orders alone keeps to 8, but leaves a time where no
+// level stands, so it is no plainer.
+#[derive(Clone, Copy, Default)]
 pub struct Cell {
     pub orders: u16,
     pub since: u32,
 }
 
 impl Cell {
-    // Whether no further order may join.
-    pub fn is_full(self) -> bool
-        ensures { result ≡ nat_le 65535 self.orders }
+    // Whether no level stands.
+    pub fn is_empty(self) -> bool
+        ensures { result ≡ (self.orders == 0) }
     {
-        self.orders >= MOST_ORDERS
+        self.orders == 0
     }
 
-    // One order more: the first one makes the level stand since that time.
-    pub fn one_more(self, time: u32) -> Cell
-        requires { self.orders < 65535 }
-        ensures { result ≡ more time self }
+    // What stands, as a level at a price, or none.
+    pub fn level(self, price: u32) -> Option<Level>
+        ensures { result ≡ seen price self }
     {
-        let since = if self.orders == 0 { time } else { self.since };
-        Cell {
-            orders: self.orders + 1,
-            since,
+        if self.is_empty() {
+            return None;
         }
-    }
-
-    // One order less.
-    pub fn one_less(self) -> Cell
-        requires { 0 < self.orders }
-        ensures { result ≡ less self }
-    {
-        Cell {
-            orders: self.orders - 1,
+        Some(Level {
+            price,
+            orders: self.orders,
             since: self.since,
+        })
+    }
+}
+
+impl From<Level> for Cell {
+    ghost from_gives = { λ level result. result ≡ holding level };
+
+    // The cell of a price at which a level stands.
+    fn from(level: Level) -> Cell {
+        Cell {
+            orders: level.orders,
+            since: level.since,
         }
     }
 }

@@ -106,6 +106,10 @@ module _ {R : Type 0} (key : R → ℕ) (before : ℕ → ℕ → Bool) (level :
           let w : take_answer_on p (map level xs) ≡ Ok tt = grind (arith, nat_tests) in
           record { answer = sym w; levels = grind (arith, nat_tests) }
 
+  -- the record that was found for a price holds the level there
+  pub found : (p : ℕ) (xs : List R) (at : ℕ) → Ok at ≡ sought key before p xs → level_in level (slice_get xs at) ≡ level_at p (map level xs)
+  found p xs at i = let o = sought_ok key before p xs at i in ap (λ k. level_in level (slice_get xs k)) o.1 ∙ found_at key before level s priced ranked p xs o.0
+
   -- no level stands where the price was not found
   module _ (transitive : (x y z : ℕ) → before x y ≡ true → before y z ≡ true → before x z ≡ true) (p : ℕ) (xs : List R) (at : ℕ) (a : ascends key before xs ≡ true) (i : Err at ≡ sought key before p xs) where
     pub missing : level_at p (map level xs) ≡ None

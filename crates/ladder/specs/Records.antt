@@ -1,27 +1,17 @@
--- The levels that records hold, and the order of the records of a side.
-use Rattle.std.specs.Prelude.{ℕ, Bool, true, ◌&&◌, List, [], ◌∷◌, map, nat_le, nat_lt}
+-- The levels that records hold, and those that may stand on a ladder.
+use Rattle.std.specs.Prelude.{ℕ, Bool, true, ◌&&◌, List, [], ◌∷◌, map, nat_le}
 use Rattle.board.specs.declared.levels.Level.{Level}
 use Rattle.board.specs.Levels.{most_orders}
-use Rattle.ladder.specs.declared.records.BuyLevel.{BuyLevel}
-use Rattle.ladder.specs.declared.records.SellLevel.{SellLevel}
+use Rattle.ladder.specs.declared.records.SideLevel.{SideLevel}
 
-abbrev pub buy_key : BuyLevel → ℕ
-buy_key r = r.0.price
+abbrev pub price_in : {sell : ℕ} → SideLevel sell → ℕ
+price_in r = r.0.price
 
-abbrev pub sell_key : SellLevel → ℕ
-sell_key r = r.0.price
+abbrev pub level_of : {sell : ℕ} → SideLevel sell → Level
+level_of r = r.0
 
-abbrev pub higher : ℕ → ℕ → Bool
-higher p q = nat_lt q p
-
-abbrev pub lower : ℕ → ℕ → Bool
-lower p q = nat_lt p q
-
-abbrev pub buys_in : List BuyLevel → List Level
-buys_in rs = map (λ r. r.0) rs
-
-abbrev pub sells_in : List SellLevel → List Level
-sells_in rs = map (λ r. r.0) rs
+abbrev pub levels_in : {sell : ℕ} → List (SideLevel sell) → List Level
+levels_in rs = map level_of rs
 
 -- the lowest and the highest price of a ladder
 abbrev pub lowest : ℕ

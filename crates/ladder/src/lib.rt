@@ -5,22 +5,17 @@ pub mod calls;
 mod one_side;
 pub mod records;
 
-ghost use Rattle.std.specs.Prelude.{◌≡◌, true, length};
-ghost use Rattle.shelf.specs.Standing.{Stands, live, held};
-ghost use Rattle.ladder.specs.Records.{buy_key, sell_key, higher, lower, buys_in, sells_in, all_proper};
+ghost use Rattle.std.specs.Prelude.{◌≡◌, true};
 ghost use Rattle.ladder.specs.Counts.{counts_fit};
+ghost use Rattle.ladder.specs.Standing.{side_room};
 
+use one_side::OneSide;
 use records::{BuyLevel, SellLevel};
-use shelf::Shelf;
 
 /// A board over all prices. As many levels a side may stand on it as it was handed records for the side.
 #[derive(Drop)]
 pub struct Ladder<'a> {
-    buys: Shelf<'a, BuyLevel>,
-    sells: Shelf<'a, SellLevel>,
-    ghost buys_stand: { Stands buy_key higher buys },
-    ghost sells_stand: { Stands sell_key lower sells },
-    ghost buys_proper: { all_proper (buys_in (live buys)) ≡ true },
-    ghost sells_proper: { all_proper (sells_in (live sells)) ≡ true },
-    ghost counts: { counts_fit (length (held buys)) (length (held sells)) ≡ true },
+    buys: OneSide<'a, BuyLevel>,
+    sells: OneSide<'a, SellLevel>,
+    ghost counts: { counts_fit (side_room buys) (side_room sells) ≡ true },
 }

@@ -1,12 +1,14 @@
 -- What a record that is read has, and what the reader answers.
-use Rattle.std.proofs.Common.{◌≡◌, ℕ, ◌+◌, ◌-◌, ◌*◌, ◌/◌, ◌≤◌, Bool, true, false, cond, eqb, ltb, List, length, get_or, take, drop, Some, None, Ok, Err, Option, Result, sym, refl, ap, ◌∙◌, subst, arith, ltb-false, ne_eqb, eqb-true}
-use Rattle.std.proofs.lemmas.List.{length-drop}
+use Rattle.std.proofs.Common.{◌≡◌, ℕ, ◌/◌, ◌≤◌, Bool, true, false, cond, eqb, ltb, List, length, get_or, take, drop, Some, None, Ok, Err, Option, Result, sym, refl, ap, ◌∙◌, subst, arith, le-ltb, ltb-false, ne_eqb, eqb-true}
+use Rattle.std.proofs.lemmas.Bool.{cond-false}
 use Rattle.entry.specs.declared.Entry.{Entry}
+use Rattle.entry.specs.declared.refusals.Place.{Place}
 use Rattle.entry.specs.declared.refusals.Refusal.{Refusal}
-use Rattle.layout.specs.declared.kinds.Kind.{Kind}
+use Rattle.entry.specs.declared.refusals.Refusal.TheVariants as why
+use Rattle.entry.specs.declared.kinds.Kind.{Kind}
 use Rattle.layout.specs.Bits.{field, fields}
 use Rattle.layout.specs.Layout.{widths, kind_of, kind_from, entry_of, bits_for, spare_for, size}
-use Rattle.layout.specs.Reading.{record_as, first_record, some_of, next}
+use Rattle.layout.specs.Reading.{further, place_at, record_as, first_record, some_of, next}
 use Rattle.layout.proofs.EachKind.{kind_kept}
 
 never : {X Y : Type 0} {x : X} {y : Y} → ◌≡◌ {A = Result X Y} (Err y) (Ok x) → ⊥
@@ -20,6 +22,15 @@ past_last : {X Y : Type 0} {x : X} (f : Y) (r : Result X Y) (b : Bool) → cond 
 past_last f r true p = (refl, p)
 past_last f r false p = absurd (never p)
 
+-- the answer where a kind has the code and all of its record is there
+pub record_there :
+    (bs : List ℕ) (place : Place) (kind : Kind) → kind_from (get_or bs 0 0 / 16) ≡ Some kind → size kind ≤ length bs →
+    first_record bs place
+    ≡ cond (eqb (field (take (size kind) bs) (bits_for (widths kind)) (spare_for (widths kind))) 0)
+    (Ok (entry_of kind (fields (take (size kind) bs) 4 (widths kind)))) (Err (why.SpareBitSet (further place (bits_for (widths kind)))))
+record_there bs place kind known long =
+    ap (λ (o : Option Kind). record_as o bs place) known ∙ cond-false (ltb (length bs) (size kind)) _ _ (le-ltb (length bs) (size kind) long)
+
 -- what holds where an entry was read
 pub record Read (bs : List ℕ) (e : Entry) : Type 0 where
   pub kind : Kind
@@ -29,9 +40,9 @@ pub record Read (bs : List ℕ) (e : Entry) : Type 0 where
   pub figures : entry_of kind (fields (take (size kind) bs) 4 (widths kind)) ≡ e
   pub same : kind_of e ≡ kind
 
-read_by : (bs : List ℕ) (r b : ℕ) (e : Entry) (o : Option Kind) → kind_from (get_or bs 0 0 / 16) ≡ o → record_as o bs r b ≡ Ok e → Read bs e
-read_by bs r b e None k p = absurd (never p)
-read_by bs r b e (Some kind) k p =
+read_by : (bs : List ℕ) (place : Place) (e : Entry) (o : Option Kind) → kind_from (get_or bs 0 0 / 16) ≡ o → record_as o bs place ≡ Ok e → Read bs e
+read_by bs place e None k p = absurd (never p)
+read_by bs place e (Some kind) k p =
     let one = past-test _ _ (ltb (length bs) (size kind)) p in
     let two = past_last _ _ (eqb (field (take (size kind) bs) (bits_for (widths kind)) (spare_for (widths kind))) 0) one.1 in
     let got : entry_of kind (fields (take (size kind) bs) 4 (widths kind)) ≡ e = (let q = two.1 in cc) in
@@ -44,21 +55,17 @@ read_by bs r b e (Some kind) k p =
       same = ap kind_of (sym got) ∙ kind_kept kind (fields (take (size kind) bs) 4 (widths kind));
     }
 
-pub read : (bs : List ℕ) (r b : ℕ) (e : Entry) → first_record bs r b ≡ Ok e → Read bs e
-read bs r b e p = read_by bs r b e (kind_from (get_or bs 0 0 / 16)) refl p
+pub read : (bs : List ℕ) (place : Place) (e : Entry) → first_record bs place ≡ Ok e → Read bs e
+read bs place e p = read_by bs place e (kind_from (get_or bs 0 0 / 16)) refl p
 
-pub read_long : (bs : List ℕ) (r b : ℕ) (e : Entry) → first_record bs r b ≡ Ok e → size (kind_of e) ≤ length bs
-read_long bs r b e p = let h = read bs r b e p in subst (λ (x : Kind). size x ≤ length bs) (sym h.same) h.long
-
-pub read_within :
-    (feed bs : List ℕ) (at r b : ℕ) (e : Entry) → bs ≡ drop at feed → Ok e ≡ first_record bs r b → size (kind_of e) ≤ length feed - at
-read_within feed bs at r b e p q = omega (arith, read_long bs r b e (sym q), ap length p, length-drop at feed)
+pub read_long : (bs : List ℕ) (place : Place) (e : Entry) → first_record bs place ≡ Ok e → size (kind_of e) ≤ length bs
+read_long bs place e p = let h = read bs place e p in subst (λ (x : Kind). size x ≤ length bs) (sym h.same) h.long
 
 -- the reader's answer before the feed's end
 pub next_by :
     (feed bs : List ℕ) (at seen : ℕ) (r : Result Entry Refusal) → bs ≡ drop at feed → (at ≡ length feed → ⊥) →
-    r ≡ first_record bs (seen + 1) (8 * at) → some_of r ≡ next feed at seen
+    r ≡ first_record bs (place_at at seen) → some_of r ≡ next feed at seen
 next_by feed bs at seen r e p q =
     sym
-    (ap (λ (b : Bool). cond b (Ok None) (some_of (first_record (drop at feed) (seen + 1) (8 * at)))) (ne_eqb at (length feed) p)
-    ∙ ap some_of (ap (λ (x : List ℕ). first_record x (seen + 1) (8 * at)) (sym e) ∙ sym q))
+    (ap (λ (b : Bool). cond b (Ok None) (some_of (first_record (drop at feed) (place_at at seen)))) (ne_eqb at (length feed) p)
+    ∙ ap some_of (ap (λ (x : List ℕ). first_record x (place_at at seen)) (sym e) ∙ sym q))

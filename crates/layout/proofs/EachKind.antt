@@ -1,7 +1,7 @@
 -- What holds of every kind's layout.
 use Rattle.std.proofs.Common.{◌≡◌, ℕ, ◌<◌, ◌≤◌, List, refl, arith}
-use Rattle.layout.specs.declared.kinds.Kind.{Kind}
-use Rattle.layout.specs.declared.kinds.Kind.TheVariants as k
+use Rattle.entry.specs.declared.kinds.Kind.{Kind}
+use Rattle.entry.specs.declared.kinds.Kind.TheVariants as k
 use Rattle.layout.specs.Bits.{total}
 use Rattle.layout.specs.Layout.{code, widths, kind_of, entry_of, size}
 

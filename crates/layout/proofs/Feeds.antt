@@ -1,12 +1,12 @@
 -- The laws of whole feeds.
-use Rattle.std.proofs.Common.{◌≡◌, ℕ, ◌+◌, ◌*◌, ◌≤◌, true, eqb, List, [], ◌∷◌, ◌++◌, length, take, drop, Some, None, Ok, Err, Option, Result, sym, refl, ap, ◌∙◌, subst, inl, inr, append_assoc, append-nil, arith, eq-eqb, ne_eqb}
+use Rattle.std.proofs.Common.{◌≡◌, ℕ, ◌+◌, ◌≤◌, true, eqb, List, [], ◌∷◌, ◌++◌, length, take, drop, Some, None, Ok, Err, Option, Result, sym, refl, ap, ◌∙◌, subst, inl, inr, append_assoc, append-nil, arith, eq-eqb, ne_eqb}
 use Rattle.std.proofs.lemmas.Bool.{and_parts, and_from, cond-true, cond-false, cases_eq}
 use Rattle.std.proofs.lemmas.List.{drop_all, drop_at, drop-drop, length-append, length-drop, take-append-drop}
 use Rattle.entry.specs.declared.Entry.{Entry}
 use Rattle.entry.specs.declared.refusals.Refusal.{Refusal}
 use Rattle.layout.specs.Bits.{AreBytes}
 use Rattle.layout.specs.Layout.{code, widths, kind_of, values, size, fits, record_of, feed_of}
-use Rattle.layout.specs.Reading.{taken, first_record, some_of, next}
+use Rattle.layout.specs.Reading.{taken, place_at, first_record, some_of, next}
 use Rattle.layout.specs.Laws.{NoRecord, ToldOf, Gives, all_fit, Faithful, Holds, ReadBy, ReadWhole}
 use Rattle.layout.proofs.EachKind.{code_lt, some_bytes}
 use Rattle.layout.proofs.Numbers.{bytes_drop}
@@ -23,30 +23,30 @@ entry_in_lem (Ok x) e p = let q : x ≡ e = cc in ap (λ (y : Entry). Ok y) q
 entry_in_lem (Err f) e p = absurd (let z : ◌≡◌ {A = ℕ} 0 1 = cc in omega arith)
 
 module _ (feed : List ℕ) (at seen : ℕ) where
-  before-end : (at ≡ length feed → ⊥) → next feed at seen ≡ some_of (first_record (drop at feed) (seen + 1) (8 * at))
+  before-end : (at ≡ length feed → ⊥) → next feed at seen ≡ some_of (first_record (drop at feed) (place_at at seen))
   before-end p = cond-false (eqb at (length feed)) _ _ (ne_eqb at (length feed) p)
 
   pub at_end : at ≡ length feed → next feed at seen ≡ Ok None
   at_end p = cond-true (eqb at (length feed)) _ _ (eq-eqb at (length feed) p)
 
   pub ended : next feed at seen ≡ Ok None → at ≡ length feed
-  ended p = elim (cases_eq at (length feed)) [ inl q ↦ q | inr q ↦ absurd (no_entry (first_record (drop at feed) (seen + 1) (8 * at)) (sym (before-end q) ∙ p)) ]
+  ended p = elim (cases_eq at (length feed)) [ inl q ↦ q | inr q ↦ absurd (no_entry (first_record (drop at feed) (place_at at seen)) (sym (before-end q) ∙ p)) ]
 
-  pub gave : (e : Entry) → next feed at seen ≡ Ok (Some e) → first_record (drop at feed) (seen + 1) (8 * at) ≡ Ok e
+  pub gave : (e : Entry) → next feed at seen ≡ Ok (Some e) → first_record (drop at feed) (place_at at seen) ≡ Ok e
   gave e p =
       elim (cases_eq at (length feed)) [
         | inl q ↦ absurd (let u = at_end q in let z : ◌≡◌ {A = ℕ} 0 1 = cc in omega arith)
-        | inr q ↦ entry_in_lem (first_record (drop at feed) (seen + 1) (8 * at)) e (sym (before-end q) ∙ p)
+        | inr q ↦ entry_in_lem (first_record (drop at feed) (place_at at seen)) e (sym (before-end q) ∙ p)
       ]
 
 -- what the reader's answer says of the bytes before the feed's end
 pub faithful :
-    (feed bs : List ℕ) (at seen : ℕ) (r : Result Entry Refusal) → bs ≡ drop at feed → AreBytes bs → r ≡ first_record bs (seen + 1) (8 * at) → Faithful feed at seen (some_of r)
+    (feed bs : List ℕ) (at seen : ℕ) (r : Result Entry Refusal) → bs ≡ drop at feed → AreBytes bs → r ≡ first_record bs (place_at at seen) → Faithful feed at seen (some_of r)
 faithful feed bs at seen (Ok e) p are q =
-    let w = writes_back bs e (seen + 1) (8 * at) are (sym q) in (w.0, ap (take (size (kind_of e))) (sym p) ∙ w.1)
+    let w = writes_back bs e (place_at at seen) are (sym q) in (w.0, ap (take (size (kind_of e))) (sym p) ∙ w.1)
 faithful feed bs at seen (Err f) p are q =
-    subst (λ (x : List ℕ). NoRecord x × ToldOf x (seen + 1) (8 * at) f) p
-    (no_record bs (seen + 1) (8 * at) f (sym q), told_of bs (seen + 1) (8 * at) f (sym q))
+    subst (λ (x : List ℕ). NoRecord x × ToldOf x (place_at at seen) f) p
+    (no_record bs (place_at at seen) f (sym q), told_of bs (place_at at seen) f (sym q))
 
 back_from :
     (feed : List ℕ) (es : List Entry) (at seen : ℕ) → AreBytes feed → at ≤ length feed → Gives feed at seen es None → (all_fit es ≡ true) × (feed_of es ≡ drop at feed)
@@ -54,9 +54,9 @@ back_from feed [] at seen are p g = (refl, sym (drop_all at feed (omega (arith, 
 back_from feed (e ∷ es) at seen are p g =
     let r = gave feed at seen e g.0 in
     let bs : List ℕ = drop at feed in
-    let w = writes_back bs e (seen + 1) (8 * at) (bytes_drop feed at are) r in
+    let w = writes_back bs e (place_at at seen) (bytes_drop feed at are) r in
     let n : ℕ = size (kind_of e) in
-    let long : n ≤ length bs = read_long bs (seen + 1) (8 * at) e r in
+    let long : n ≤ length bs = read_long bs (place_at at seen) e r in
     let rest = back_from feed es (at + n) (seen + 1) are (omega (arith, long, length-drop at feed, p)) g.1 in (
       and_from (fits e) (all_fit es) w.0 rest.0,
       ap (λ (x : List ℕ). x ++ feed_of es) (sym w.1)
@@ -78,7 +78,7 @@ there_from front (e ∷ es) at seen l ok =
     let more : at ≡ length feed → ⊥ =
     (λ p. omega (arith, p, l, long, some_bytes (kind_of e), length-append front (record_of e ++ feed_of es), length-append (record_of e) (feed_of es))) in
     let here : next feed at seen ≡ Ok (Some e) =
-    sym (next_by feed (record_of e ++ feed_of es) at seen (Ok e) behind more (sym (reads_back e (feed_of es) (seen + 1) (8 * at) fit.0))) in
+    sym (next_by feed (record_of e ++ feed_of es) at seen (Ok e) behind more (sym (reads_back e (feed_of es) (place_at at seen) fit.0))) in
     let regroup : (front ++ record_of e) ++ feed_of es ≡ feed = append_assoc front (record_of e) (feed_of es) in
     let rest = there_from (front ++ record_of e) es (at + n) (seen + 1) (omega (arith, l, long, length-append front (record_of e))) fit.1 in
     (here, subst (λ (x : List ℕ). Gives x (at + n) (seen + 1) es None) regroup rest)

@@ -1,5 +1,5 @@
 -- The laws of writing and reading.
-use Rattle.std.proofs.Common.{◌≡◌, ℕ, ◌+◌, ◌/◌, ◌<◌, ◌≤◌, Bool, true, cond, eqb, ltb, List, [], ◌∷◌, ◌++◌, length, get_or, take, drop, IfOk, Some, None, Ok, Err, Option, Result, sym, refl, ap, ◌∙◌, subst, inl, inr, arith, le-ltb, lt-ltb, eq-eqb, ne_eqb}
+use Rattle.std.proofs.Common.{◌≡◌, ℕ, ◌/◌, ◌<◌, ◌≤◌, Bool, true, cond, eqb, ltb, List, [], ◌∷◌, ◌++◌, length, get_or, take, drop, IfOk, Some, None, Ok, Err, Option, Result, sym, refl, ap, ◌∙◌, subst, inl, inr, arith, le-ltb, lt-ltb, eq-eqb, ne_eqb}
 use Rattle.std.proofs.lemmas.Nat.{mod_below}
 use Rattle.std.proofs.lemmas.Bool.{cond-true, cond-false, cases_lt, cases_eq}
 use Rattle.std.proofs.lemmas.List.{get_or_append_left, get_or-take, take_at, length-append, length-take-le, take-append-drop}
@@ -7,21 +7,22 @@ use Rattle.entry.specs.declared.Side.{Side}
 use Rattle.entry.specs.declared.Side.TheVariants.{Buy, Sell}
 use Rattle.entry.specs.declared.Entry.{Entry}
 use Rattle.entry.specs.declared.Entry.TheVariants as e
+use Rattle.entry.specs.declared.refusals.Place.{Place}
 use Rattle.entry.specs.declared.refusals.Refusal.{Refusal}
 use Rattle.entry.specs.declared.refusals.Refusal.TheVariants as why
 use Rattle.entry.specs.Refusals.{told}
-use Rattle.layout.specs.declared.kinds.Kind.{Kind}
-use Rattle.layout.specs.declared.kinds.Kind.TheVariants as k
+use Rattle.entry.specs.declared.kinds.Kind.{Kind}
+use Rattle.entry.specs.declared.kinds.Kind.TheVariants as k
 use Rattle.layout.specs.Bits.{AreBytes, field, fields, fit}
 use Rattle.layout.specs.Layout.{code, widths, kind_of, bit, side_of, values, entry_of, kind_from, bits_for, spare_for, bytes_for, size, fits, record_with, record_of}
-use Rattle.layout.specs.Reading.{record_as, first_record}
+use Rattle.layout.specs.Reading.{further, record_as, first_record}
 use Rattle.layout.specs.Laws.{NoRecord, ToldOf}
 use Rattle.layout.specs.Writing.{answer, output}
 use Rattle.layout.proofs.Written.{written_ok}
 use Rattle.layout.proofs.EachKind.{code_lt, some_bytes}
 use Rattle.layout.proofs.Numbers.{bytes_take}
 use Rattle.layout.proofs.Back.{fields_fit, record_back, record_code, record_spare, record_fields, length_record}
-use Rattle.layout.proofs.Decoded.{read}
+use Rattle.layout.proofs.Decoded.{record_there, read}
 
 pub kind_back : (kind : Kind) → kind_from (code kind) ≡ Some kind
 kind_back k.Clock = refl
@@ -73,19 +74,18 @@ values_back k.Reference bs = refl
 values_back k.Ruling bs = refl
 
 -- a whole record with no spare bit set is read
-read_whole :
-    (bs : List ℕ) (r b : ℕ) (kind : Kind) → kind_from (get_or bs 0 0 / 16) ≡ Some kind → size kind ≤ length bs →
+pub read_whole :
+    (bs : List ℕ) (place : Place) (kind : Kind) → kind_from (get_or bs 0 0 / 16) ≡ Some kind → size kind ≤ length bs →
     field (take (size kind) bs) (bits_for (widths kind)) (spare_for (widths kind)) ≡ 0 →
-    first_record bs r b ≡ Ok (entry_of kind (fields (take (size kind) bs) 4 (widths kind)))
-read_whole bs r b kind known long z =
-    ap (λ (o : Option Kind). record_as o bs r b) known
-    ∙ (cond-false (ltb (length bs) (size kind)) _ _ (le-ltb (length bs) (size kind) long)
+    first_record bs place ≡ Ok (entry_of kind (fields (take (size kind) bs) 4 (widths kind)))
+read_whole bs place kind known long z =
+    record_there bs place kind known long
     ∙ cond-true (eqb (field (take (size kind) bs) (bits_for (widths kind)) (spare_for (widths kind))) 0) _ _
-    (eq-eqb (field (take (size kind) bs) (bits_for (widths kind)) (spare_for (widths kind))) 0 z))
+    (eq-eqb (field (take (size kind) bs) (bits_for (widths kind)) (spare_for (widths kind))) 0 z)
 
 -- what is written is read: bytes that begin with an entry's record are read as that entry
-pub reads_back : (e : Entry) (rest : List ℕ) (r b : ℕ) → fits e ≡ true → first_record (record_of e ++ rest) r b ≡ Ok e
-reads_back e rest r b ok =
+pub reads_back : (e : Entry) (rest : List ℕ) (place : Place) → fits e ≡ true → first_record (record_of e ++ rest) place ≡ Ok e
+reads_back e rest place ok =
     let kind : Kind = kind_of e in
     let c : ℕ = code kind in
     let ws : List ℕ = widths kind in
@@ -99,7 +99,7 @@ reads_back e rest r b ok =
     ap (λ (x : List ℕ). field x (bits_for ws) (spare_for ws)) front ∙ record_spare c ws (values e) (code_lt kind) ok in
     let figures : fields (take (size kind) bs) 4 ws ≡ values e =
     ap (λ (x : List ℕ). fields x 4 ws) front ∙ record_fields c ws (values e) (code_lt kind) ok (as_many e) in
-    read_whole bs r b kind known (omega (arith, long, length-append (record_of e) rest)) zeros ∙ ap (λ (x : Entry). Ok x) (ap (entry_of kind) figures ∙ entry_back e)
+    read_whole bs place kind known (omega (arith, long, length-append (record_of e) rest)) zeros ∙ ap (λ (x : Entry). Ok x) (ap (entry_of kind) figures ∙ entry_back e)
 
 -- a code has one kind
 at_code : (n i : ℕ) (x kind : Kind) (o : Option Kind) → i ≡ code x → (o ≡ Some kind → n ≡ code kind) → cond (eqb n i) (Some x) o ≡ Some kind → n ≡ code kind
@@ -134,9 +134,9 @@ code_le k.Ruling = omega arith
 
 -- what is read is written: an entry that was read fits, and its record is the bytes that it was read from
 pub writes_back :
-    (bs : List ℕ) (e : Entry) (r b : ℕ) → AreBytes bs → first_record bs r b ≡ Ok e → (fits e ≡ true) × (take (size (kind_of e)) bs ≡ record_of e)
-writes_back bs e r b are p =
-    let h = read bs r b e p in
+    (bs : List ℕ) (e : Entry) (place : Place) → AreBytes bs → first_record bs place ≡ Ok e → (fits e ≡ true) × (take (size (kind_of e)) bs ≡ record_of e)
+writes_back bs e place are p =
+    let h = read bs place e p in
     let kind : Kind = h.kind in
     let front : List ℕ = take (size kind) bs in
     let ws : List ℕ = widths kind in
@@ -162,21 +162,21 @@ never_read : {e : Entry} {f : Refusal} → ◌≡◌ {A = Result Entry Refusal} 
 never_read p = let z : ◌≡◌ {A = ℕ} 0 1 = cc in omega arith
 
 -- the number and the place of a refusal
-told-by : (bs : List ℕ) (r b : ℕ) (f : Refusal) (o : Option Kind) → kind_from (get_or bs 0 0 / 16) ≡ o → record_as o bs r b ≡ Err f → ToldOf bs r b f
-told-by bs r b f None known p =
-    let is : why.UnknownKind r b ≡ f = cc in
+told-by : (bs : List ℕ) (place : Place) (f : Refusal) (o : Option Kind) → kind_from (get_or bs 0 0 / 16) ≡ o → record_as o bs place ≡ Err f → ToldOf bs place f
+told-by bs place f None known p =
+    let is : why.UnknownKind place ≡ f = cc in
     record {
       unknown = λ q. ap told (sym is);
       cut = λ kind q s. absurd (no_kind kind (sym known ∙ (ap kind_from q ∙ kind_back kind)));
       spare = λ kind q s. absurd (no_kind kind (sym known ∙ (ap kind_from q ∙ kind_back kind)));
     }
-told-by bs r b f (Some kind) known p =
+told-by bs place f (Some kind) known p =
     let c = code_of (get_or bs 0 0 / 16) kind known in
     let spares : ℕ = field (take (size kind) bs) (bits_for (widths kind)) (spare_for (widths kind)) in
     elim (cases_lt (length bs) (size kind)) [
       | inl short ↦
-          let first : ◌≡◌ {A = Result Entry Refusal} (Err (why.FeedEnds r b)) (Err f) = sym (cond-true (ltb (length bs) (size kind)) _ _ (lt-ltb (length bs) (size kind) short)) ∙ p in
-          let is : why.FeedEnds r b ≡ f = cc in
+          let first : ◌≡◌ {A = Result Entry Refusal} (Err (why.FeedEnds place)) (Err f) = sym (cond-true (ltb (length bs) (size kind)) _ _ (lt-ltb (length bs) (size kind) short)) ∙ p in
+          let is : why.FeedEnds place ≡ f = cc in
           record {
             unknown = λ q. absurd (omega (arith, q, c, code_le kind));
             cut = λ other q s. ap told (sym is);
@@ -187,28 +187,28 @@ told-by bs r b f (Some kind) known p =
           elim (cases_eq spares 0) [
             | inl z ↦ absurd (never_read (sym (cond-true (eqb spares 0) _ _ (eq-eqb spares 0 z)) ∙ later))
             | inr z ↦
-                let last : ◌≡◌ {A = Result Entry Refusal} (Err (why.SpareBitSet r (b + bits_for (widths kind)))) (Err f) = sym (cond-false (eqb spares 0) _ _ (ne_eqb spares 0 z)) ∙ later in
-                let is : why.SpareBitSet r (b + bits_for (widths kind)) ≡ f = cc in
+                let last : ◌≡◌ {A = Result Entry Refusal} (Err (why.SpareBitSet (further place (bits_for (widths kind))))) (Err f) = sym (cond-false (eqb spares 0) _ _ (ne_eqb spares 0 z)) ∙ later in
+                let is : why.SpareBitSet (further place (bits_for (widths kind))) ≡ f = cc in
                 record {
                   unknown = λ q. absurd (omega (arith, q, c, code_le kind));
                   cut = λ other q s. absurd (omega (arith, long, s, ap size (same_kind (get_or bs 0 0 / 16) kind other known q)));
                   spare = λ other q s.
-                      ap told (sym is) ∙ ap (λ (x : Kind). (16, Some (r, b + bits_for (widths x)))) (sym (same_kind (get_or bs 0 0 / 16) kind other known q));
+                      ap told (sym is) ∙ ap (λ (x : Kind). (16, Some (further place (bits_for (widths x))))) (sym (same_kind (get_or bs 0 0 / 16) kind other known q));
                 }
           ]
     ]
 
-pub told_of : (bs : List ℕ) (r b : ℕ) (f : Refusal) → first_record bs r b ≡ Err f → ToldOf bs r b f
-told_of bs r b f p = told-by bs r b f (kind_from (get_or bs 0 0 / 16)) refl p
+pub told_of : (bs : List ℕ) (place : Place) (f : Refusal) → first_record bs place ≡ Err f → ToldOf bs place f
+told_of bs place f p = told-by bs place f (kind_from (get_or bs 0 0 / 16)) refl p
 
-pub no_record : (bs : List ℕ) (r b : ℕ) (f : Refusal) → first_record bs r b ≡ Err f → NoRecord bs
-no_record bs r b f p e ok front =
+pub no_record : (bs : List ℕ) (place : Place) (f : Refusal) → first_record bs place ≡ Err f → NoRecord bs
+no_record bs place f p e ok front =
     let parts : record_of e ++ drop (size (kind_of e)) bs ≡ bs = ap (λ (x : List ℕ). x ++ drop (size (kind_of e)) bs) (sym front) ∙ take-append-drop (size (kind_of e)) bs in
-    never_read (sym (ap (λ (x : List ℕ). first_record x r b) (sym parts) ∙ reads_back e (drop (size (kind_of e)) bs) r b ok) ∙ p)
+    never_read (sym (ap (λ (x : List ℕ). first_record x place) (sym parts) ∙ reads_back e (drop (size (kind_of e)) bs) place ok) ∙ p)
 
 -- what the writer wrote is read as the entry
-pub output_read : (e : Entry) (out last : List ℕ) (x : Result ℕ Refusal) → x ≡ answer e out → last ≡ output e out → IfOk x (λ _. (n b : ℕ) → first_record last n b ≡ Ok e)
+pub output_read : (e : Entry) (out last : List ℕ) (x : Result ℕ Refusal) → x ≡ answer e out → last ≡ output e out → IfOk x (λ _. (place : Place) → first_record last place ≡ Ok e)
 output_read e out last (Ok length-told) p q =
-    let w = written_ok e out length-told (sym p) in λ n b.
-    ap (λ (x : List ℕ). first_record x n b) (q ∙ w.1) ∙ reads_back e (drop (length (record_of e)) out) n b w.0
+    let w = written_ok e out length-told (sym p) in λ place.
+    ap (λ (x : List ℕ). first_record x place) (q ∙ w.1) ∙ reads_back e (drop (length (record_of e)) out) place w.0
 output_read e out last (Err f) p q = tt

@@ -1,31 +1,32 @@
 -- What holds of reading and writing, for all bytes and all entries.
-use Rattle.std.specs.Prelude.{◌≡◌, ℕ, ◌+◌, ◌*◌, ◌/◌, ◌<◌, ◌≤◌, Bool, true, ◌&&◌, List, [], ◌∷◌, length, take, drop, Some, None, Ok, Err, Option, Result, ◌≢◌, slice_index}
+use Rattle.std.specs.Prelude.{◌≡◌, ℕ, ◌+◌, ◌/◌, ◌<◌, ◌≤◌, Bool, true, ◌&&◌, List, [], ◌∷◌, length, take, drop, Some, None, Ok, Err, Option, Result, ◌≢◌, slice_index}
 use Rattle.entry.specs.declared.Entry.{Entry}
+use Rattle.entry.specs.declared.refusals.Place.{Place}
 use Rattle.entry.specs.declared.refusals.Refusal.{Refusal}
 use Rattle.entry.specs.Refusals.{told}
-use Rattle.layout.specs.declared.kinds.Kind.{Kind}
+use Rattle.entry.specs.declared.kinds.Kind.{Kind}
 use Rattle.layout.specs.Layout.{code, widths, kind_of, bits_for, size, fits, record_of, feed_of}
-use Rattle.layout.specs.Reading.{taken, next}
+use Rattle.layout.specs.Reading.{taken, further, place_at, next}
 
 -- the bytes begin with no entry's record
 abbrev pub NoRecord : List ℕ → Type 0
 NoRecord bs = (e : Entry) → fits e ≡ true → take (size (kind_of e)) bs ≢ record_of e
 
 -- the number and the place that such bytes are refused with
-pub record ToldOf (bs : List ℕ) (r b : ℕ) (f : Refusal) : Type 0 where
+pub record ToldOf (bs : List ℕ) (place : Place) (f : Refusal) : Type 0 where
   -- no kind has the code in the first 4 bits
-  pub unknown : 6 < slice_index bs 0 / 16 → told f ≡ (15, Some (r, b))
+  pub unknown : 6 < slice_index bs 0 / 16 → told f ≡ (15, Some place)
   -- a kind has it, and the bytes end inside the record
-  pub cut : (kind : Kind) → slice_index bs 0 / 16 ≡ code kind → length bs < size kind → told f ≡ (14, Some (r, b))
+  pub cut : (kind : Kind) → slice_index bs 0 / 16 ≡ code kind → length bs < size kind → told f ≡ (14, Some place)
   -- a kind has it, and the record is there: then a spare bit is set
-  pub spare : (kind : Kind) → slice_index bs 0 / 16 ≡ code kind → size kind ≤ length bs → told f ≡ (16, Some (r, b + bits_for (widths kind)))
+  pub spare : (kind : Kind) → slice_index bs 0 / 16 ≡ code kind → size kind ≤ length bs → told f ≡ (16, Some (further place (bits_for (widths kind))))
 
 -- What a reader's answer says of the bytes at its place: it tells the end exactly there; it gives an entry only where
 -- that entry's record stands; and it refuses only where no entry's record stands, with that number and place.
 abbrev pub Faithful : List ℕ → ℕ → ℕ → Result (Option Entry) Refusal → Type 0
 Faithful feed at seen (Ok None) = at ≡ length feed
 Faithful feed at seen (Ok (Some e)) = (fits e ≡ true) × (take (size (kind_of e)) (drop at feed) ≡ record_of e)
-Faithful feed at seen (Err f) = NoRecord (drop at feed) × ToldOf (drop at feed) (seen + 1) (8 * at) f
+Faithful feed at seen (Err f) = NoRecord (drop at feed) × ToldOf (drop at feed) (place_at at seen) f
 
 -- The entries that the reader gives, one after another, from a byte of the feed on, after so many records;
 -- and how that ends: at the feed's end, or with a fault.

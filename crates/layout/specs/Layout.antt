@@ -1,24 +1,15 @@
 -- The layout of a record: kind, time, the kind's fields, zero bits to a whole byte.
-use Rattle.std.specs.Prelude.{ℕ, ◌+◌, ◌-◌, ◌*◌, ◌/◌, ◌^◌, Bool, cond, List, [], ◌∷◌, ◌++◌, Some, None, Option, ◌==◌, slice_index}
+use Rattle.std.specs.Prelude.{ℕ, ◌+◌, ◌-◌, ◌*◌, ◌/◌, ◌^◌, Bool, cond, List, [], ◌∷◌, ◌++◌, ◌==◌, slice_index}
 use Rattle.entry.specs.declared.Side.{Side}
 use Rattle.entry.specs.declared.Side.TheVariants.{Buy, Sell}
 use Rattle.entry.specs.declared.Entry.{Entry}
 use Rattle.entry.specs.declared.Entry.TheVariants as e
-use Rattle.layout.specs.declared.kinds.Kind.{Kind}
-use Rattle.layout.specs.declared.kinds.Kind.TheVariants as k
+use Rattle.entry.specs.declared.kinds.Kind.{Kind}
+use Rattle.entry.specs.declared.kinds.Kind.TheVariants as k
+pub use Rattle.entry.specs.Kinds.{code, kind_from, kind_of}
 use Rattle.layout.specs.Bits.{bytes, total, fit, packed}
 
--- a record begins with its kind's code, in 4 bits
-abbrev pub code : Kind → ℕ
-code k.Clock = 0
-code k.Post = 1
-code k.Leave = 2
-code k.Trade = 3
-code k.Parameters = 4
-code k.Reference = 5
-code k.Ruling = 6
-
--- then come the time, in 30 bits, and the kind's fields, in so many bits each
+-- A record begins with its kind's code, in 4 bits. Then come the time, in 30 bits, and the kind's fields, in so many bits each.
 abbrev pub widths : Kind → List ℕ
 widths k.Clock = 30 ∷ []
 widths k.Post = 30 ∷ (1 ∷ (2 ∷ (30 ∷ [])))
@@ -27,15 +18,6 @@ widths k.Trade = 30 ∷ (2 ∷ (30 ∷ (24 ∷ [])))
 widths k.Parameters = 30 ∷ (30 ∷ (30 ∷ (30 ∷ (30 ∷ []))))
 widths k.Reference = 30 ∷ (3 ∷ (30 ∷ []))
 widths k.Ruling = 30 ∷ (30 ∷ [])
-
-abbrev pub kind_of : Entry → Kind
-kind_of (e.Clock t) = k.Clock
-kind_of (e.Post t s m p) = k.Post
-kind_of (e.Leave t s p) = k.Leave
-kind_of (e.Trade t m p q) = k.Trade
-kind_of (e.Parameters t ps) = k.Parameters
-kind_of (e.Reference t s p) = k.Reference
-kind_of (e.Ruling t p) = k.Ruling
 
 -- side 0 is buy, 1 is sell
 abbrev pub bit : Side → ℕ
@@ -64,12 +46,6 @@ entry_of k.Trade vs = e.Trade (slice_index vs 0) (slice_index vs 1) (slice_index
 entry_of k.Parameters vs = e.Parameters (slice_index vs 0) (record { sp = slice_index vs 1; l = slice_index vs 2; ur = slice_index vs 3; lr = slice_index vs 4 })
 entry_of k.Reference vs = e.Reference (slice_index vs 0) (slice_index vs 1) (slice_index vs 2)
 entry_of k.Ruling vs = e.Ruling (slice_index vs 0) (slice_index vs 1)
-
--- the kind with a code
-abbrev pub kind_from : ℕ → Option Kind
-kind_from n =
-    cond (n == 0) (Some k.Clock) (cond (n == 1) (Some k.Post) (cond (n == 2) (Some k.Leave) (cond (n == 3) (Some k.Trade)
-    (cond (n == 4) (Some k.Parameters) (cond (n == 5) (Some k.Reference) (cond (n == 6) (Some k.Ruling) None))))))
 
 -- bits without the spare ones, bytes, and spare bits of a record whose fields have these widths
 abbrev pub bits_for : List ℕ → ℕ

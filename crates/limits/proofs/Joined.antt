@@ -42,21 +42,21 @@ upper_bound w =
       within = λ x h. (omega (arith, is.0), λ s l. omega (arith, is.1 s l));
     }
 
--- the pair of limits is the exact rule's
-pub lower_exact : (p : Params) (q : ℕ) (bounded : Option BoundedWindow) → p.lr ≤ p.ur →
-    Least (FromDynamicLower p q bounded) (dynamic_limits p q bounded).0
-lower_exact p q None h = record { least = λ x w. omega arith; within = λ x w. (omega arith, omega arith) }
-lower_exact p q (Some b) h =
+-- the limits are the exact rule's
+pub lower_exact : (p : Params) (q : ℕ) (bounded : Option BoundedWindow) (n : ℕ) → n ≡ (dynamic_limits p q bounded).0 → p.lr ≤ p.ur →
+    Least (FromDynamicLower p q bounded) n
+lower_exact p q None n e h = record { least = λ x w. omega arith; within = λ x w. (omega arith, omega arith) }
+lower_exact p q (Some b) n e h =
     let bound = lower_bound b in
     record {
       least = λ x w. omega (arith, bound.least x w.1);
       within = λ x w. ((omega arith, omega arith), bound.within x (omega arith));
     }
 
-pub upper_exact : (p : Params) (q : ℕ) (bounded : Option BoundedWindow) → p.lr ≤ p.ur →
-    Greatest (ToDynamicUpper p q bounded) (dynamic_limits p q bounded).1
-upper_exact p q None h = record { greatest = λ x w. omega arith; within = λ x w. (omega arith, omega arith) }
-upper_exact p q (Some b) h =
+pub upper_exact : (p : Params) (q : ℕ) (bounded : Option BoundedWindow) (n : ℕ) → n ≡ (dynamic_limits p q bounded).1 → p.lr ≤ p.ur →
+    Greatest (ToDynamicUpper p q bounded) n
+upper_exact p q None n e h = record { greatest = λ x w. omega arith; within = λ x w. (omega arith, omega arith) }
+upper_exact p q (Some b) n e h =
     let bound = upper_bound b in
     record {
       greatest = λ x w. omega (arith, bound.greatest x w.1);

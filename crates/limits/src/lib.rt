@@ -8,14 +8,15 @@ ghost use Rattle.limits.specs.Worked.{Worked};
 
 use entry::Params;
 
-/// The code of the main session.
+/// The code of the main session, as crate `plan` numbers the sessions.
 const MAIN: u8 = 2;
 
 /// The greatest K of the main session's bounds while days are left.
 const TIGHT: u32 = 100;
 
 /// A bounded window as the limits read it: its session's code, its K in thousandths, the session's LP, and the days left in
-/// each direction.
+/// each direction. A code that no session has is judged like that of a session other than the main one.
+// The session stays a code, since an enum of the sessions would ask more of callers: the limits answer for any figures.
 #[derive(Clone, Copy)]
 pub struct BoundedWindow {
     pub session: u8,
@@ -33,7 +34,7 @@ pub fn static_limits(params: Params) -> (u64, u64)
 {
     let sp = params.sp as u64;
     let twice = 2 * params.l as u64;
-    let fifth = (sp + 4) / 5;
+    let fifth = sp.div_ceil(5);
     (
         sp.saturating_sub(twice).min(fifth),
         (sp + twice).max(5 * sp),
@@ -55,30 +56,32 @@ pub fn dynamic_limits(params: Params, quotation: u32, bounded: Option<BoundedWin
     match bounded {
         None => (lower, upper),
         Some(window) => {
-            let (lowest, highest) = bounds(window);
+            let (lowest, highest) = window.bounds();
             (lower.max(lowest), upper.min(highest))
         }
     }
 }
 
-/// The bounds that a bounded window sets to the dynamic limits, lower and upper.
-fn bounds(window: BoundedWindow) -> (u64, u64)
-    ensures answer { result ≡ bounds_of window }
-{
-    let lp = window.lp as u64;
-    let below = tight_k(window.session, window.down, window.k) as u64;
-    let above = tight_k(window.session, window.up, window.k) as u64;
-    (lp.saturating_sub(below * lp / 1000), lp + above * lp / 1000)
-}
+impl BoundedWindow {
+    /// The bounds that the window sets to the dynamic limits, lower and upper.
+    fn bounds(self) -> (u64, u64)
+        ensures answer { result ≡ bounds_of self }
+    {
+        let lp = self.lp as u64;
+        let below = self.tight_k(self.down) as u64;
+        let above = self.tight_k(self.up) as u64;
+        (lp.saturating_sub(below * lp / 1000), lp + above * lp / 1000)
+    }
 
-/// The K for a bound, with so many days left in its direction.
-fn tight_k(session: u8, left: u8, k: u32) -> u32
-    ensures answer { result ≡ tightened session left k }
-{
-    if session == MAIN && left > 0 {
-        k.min(TIGHT)
-    } else {
-        k
+    /// The K for a bound, with so many days left in its direction.
+    fn tight_k(self, left: u8) -> u32
+        ensures answer { result ≡ tightened self.session left self.k }
+    {
+        if self.session == MAIN && left > 0 {
+            self.k.min(TIGHT)
+        } else {
+            self.k
+        }
     }
 }
 

@@ -1,6 +1,6 @@
 -- Windows in order: what the last one that starts by a time says of the slot there and of overlaps, and one more at its place.
-use Rattle.std.proofs.Common.{◌≡◌, ℕ, zero, suc, ◌-◌, ◌<◌, ◌≤◌, Bool, true, false, cond, ◌||◌, ltb, ◌⊎◌, List, [], ◌∷◌, Some, None, Option, refl, ap, ◌∙◌, inl, inr, arith}
-use Rattle.std.proofs.lemmas.Bool.{and_parts, lt-ltb, le-ltb}
+use Rattle.std.proofs.Common.{◌≡◌, ℕ, zero, suc, ◌-◌, ◌<◌, ◌≤◌, Bool, true, false, cond, ◌||◌, ltb, List, [], ◌∷◌, Some, None, Option, refl, ◌∙◌, arith}
+use Rattle.std.proofs.lemmas.Bool.{and_parts}
 use Rattle.std.proofs.lemmas.Bool.Decides.{nat_tests}
 use Rattle.std.specs.List.{slice_get}
 use Rattle.shelf.specs.Order.{all_after, ascends, place, stands, placed}
@@ -9,7 +9,7 @@ use Rattle.plan.specs.declared.slots.Slot.TheVariants.{NoSession}
 use Rattle.plan.specs.declared.slots.Window.{Window}
 use Rattle.plan.specs.Hours.{slot_at, in_order}
 use Rattle.plan.specs.Windows.{start_of, earlier, last_from, last_by, overlaps_any}
-use Rattle.plan.proofs.Order.{order_parts, order_from, early, skipped}
+use Rattle.plan.proofs.Order.{order_parts, early, skipped}
 
 -- the window before a place, and otherwise the one before them all
 abbrev pub before_at : Option Window → List Window → ℕ → Option Window
@@ -106,19 +106,9 @@ module _ (w : Window) (proper : w.start < w.end) where
       let ih = start_free x.end xs p.2 in
       grind (arith, nat_tests)
 
-  apart : (x : Window) (xs : List Window) → overlaps_any w (x ∷ xs) ≡ false → ((x.end ≤ w.start) ⊎ (w.end ≤ x.start)) × (overlaps_any w xs ≡ false)
-  apart x xs o = grind (arith, nat_tests)
-
   pub order_placed : (from : ℕ) (ws : List Window) → in_order from ws ≡ true → overlaps_any w ws ≡ false → from ≤ w.start → in_order from (placed start_of earlier w ws) ≡ true
-  order_placed from [] h o l = order_from from w [] l proper refl
+  order_placed from [] h o l = grind (arith, nat_tests)
   order_placed from (x ∷ xs) h o l =
       let p = order_parts from x xs h in
-      let a = apart x xs o in
-      elim a.0 [
-        | inl behind ↦
-            ap (λ b. in_order from (cond b (x ∷ placed start_of earlier w xs) (w ∷ x ∷ xs))) (lt-ltb x.start w.start (omega arith))
-            ∙ order_from from x (placed start_of earlier w xs) p.0 p.1 (order_placed x.end xs p.2 a.1 behind)
-        | inr ahead ↦
-            ap (λ b. in_order from (cond b (x ∷ placed start_of earlier w xs) (w ∷ x ∷ xs))) (le-ltb x.start w.start (omega arith))
-            ∙ order_from from w (x ∷ xs) l proper (order_from w.end x xs ahead p.1 p.2)
-      ]
+      let ih = order_placed x.end xs p.2 in
+      grind (arith, nat_tests)

@@ -2,14 +2,15 @@
 use Rattle.std.specs.Prelude.{ℕ, cond, ◌&&◌, List, length, Some, None, Ok, Err, Option, Result, nat_le, nat_lt}
 use Rattle.entry.specs.declared.refusals.Refusal.{Refusal}
 use Rattle.entry.specs.declared.refusals.Refusal.TheVariants.{OutOfRange, WindowOverlaps, TooManyWindows}
+use Rattle.entry.specs.declared.windows.Announcement.{Announcement}
+use Rattle.entry.specs.declared.windows.Bounding.{Bounding}
+use Rattle.entry.specs.declared.windows.Bounding.TheVariants.{Free, Bounded}
 use Rattle.shelf.specs.Standing.{live, held}
 use Rattle.shelf.specs.Order.{placed}
 use Rattle.shelf.specs.Calls.{on_ok}
 use Rattle.plan.specs.declared.slots.Session.{Session}
 use Rattle.plan.specs.declared.slots.Slot.{Slot}
 use Rattle.plan.specs.declared.slots.Slot.TheVariants as is
-use Rattle.plan.specs.declared.slots.Bounding.{Bounding}
-use Rattle.plan.specs.declared.slots.Bounding.TheVariants.{Free, Bounded}
 use Rattle.plan.specs.declared.slots.Window.{Window}
 use Rattle.plan.specs.declared.announced.AnnouncedPlan.{AnnouncedPlan}
 use Rattle.plan.specs.Sessions.{session_of}
@@ -27,15 +28,15 @@ abbrev pub slot_by : Bounding → Session → ℕ → Slot
 slot_by Free session k = is.Free session
 slot_by Bounded session k = is.Bounded session k
 
--- the window of a session with these figures, where they are in range
-abbrev pub window_in : Option Session → ℕ → ℕ → Bounding → ℕ → Result Window Refusal
-window_in None start end bounding k = Err OutOfRange
-window_in (Some session) start end bounding k =
-    cond (nat_le k greatest_k && (nat_lt start end && nat_le end latest_end)) (Ok (record { start = start; end = end; slot = slot_by bounding session k })) (Err OutOfRange)
+-- the window that is asked for, in its session, where the figures are in range
+abbrev pub window_in : Announcement → Option Session → Result Window Refusal
+window_in a None = Err OutOfRange
+window_in a (Some session) =
+    cond (nat_le a.k greatest_k && (nat_lt a.start a.end && nat_le a.end latest_end)) (Ok (record { start = a.start; end = a.end; slot = slot_by a.bounding session a.k })) (Err OutOfRange)
 
--- the window with these figures and the session's code, where they are in range
-abbrev pub window_of : ℕ → ℕ → ℕ → Bounding → ℕ → Result Window Refusal
-window_of start end code bounding k = window_in (session_of code) start end bounding k
+-- the window that is asked for, where the session's code and the other figures are in range
+abbrev pub window_of : Announcement → Result Window Refusal
+window_of a = window_in a (session_of a.session)
 
 -- what is answered to a window in range, and the windows after it
 abbrev pub add_answer : Window → List Window → Result (Unit {0}) Refusal

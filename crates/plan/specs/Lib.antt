@@ -5,3 +5,4 @@ pub mod Fixed
 pub mod Windows
 pub mod Announced
 pub mod Overlaps
+pub mod Texts

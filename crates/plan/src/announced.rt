@@ -2,9 +2,9 @@
 pub mod calls;
 
 ghost use Rattle.std.specs.Prelude.{◌≡◌, true, length};
-ghost use Rattle.shelf.specs.Standing.{Stands, live, held};
+ghost use Rattle.shelf.specs.Standing.{live, held};
 ghost use Rattle.plan.specs.Hours.{in_order};
-ghost use Rattle.plan.specs.Windows.{most_windows, start_of, earlier};
+ghost use Rattle.plan.specs.Windows.{most_windows};
 
 use crate::slots::Window;
 use shelf::Shelf;
@@ -13,7 +13,6 @@ use shelf::Shelf;
 #[derive(Drop)]
 pub struct AnnouncedPlan<'a> {
     shelf: Shelf<'a, Window>,
-    ghost stands: { Stands start_of earlier shelf },
     ghost order: { in_order 0 (live shelf) ≡ true },
     ghost records: { length (held shelf) ≡ most_windows },
 }

@@ -1,6 +1,6 @@
 // The fixed plan: the usual hours of a trading day. Calendar days before its last one have the weekend session alone.
 ghost use Rattle.std.specs.Prelude.{◌≡◌};
-ghost use Rattle.plan.specs.Fixed.{fixed_answer, fixed_hours, row_holds, row_slot, rows_at};
+ghost use Rattle.plan.specs.Fixed.{fixed_answer, fixed_hours, group_answer, row_holds, row_slot, rows_at};
 
 use crate::Plan;
 use crate::slots::{Session, Slot};
@@ -12,10 +12,27 @@ const DAY: u32 = 86_400_000;
 /// The most calendar days of a trading day.
 const MOST_DAYS: u32 = 10;
 
-/// The group of quoted securities, and of unquoted ones.
-const QUOTED: u32 = 0;
+/// The group of a security.
+#[derive(Clone, Copy)]
+enum Group {
+    Quoted,
+    Unquoted,
+}
 
-const UNQUOTED: u32 = 1;
+impl TryFrom<u32> for Group {
+    type Error = Refusal;
+
+    ghost try_from_gives = { λ n result. result ≡ group_answer n };
+
+    /// The group with a code: 0 for quoted securities, 1 for unquoted ones.
+    fn try_from(code: u32) -> Result<Group, Refusal> {
+        match code {
+            0 => Ok(Group::Quoted),
+            1 => Ok(Group::Unquoted),
+            _ => Err(Refusal::OutOfRange),
+        }
+    }
+}
 
 /// A row of the table of hours: whether it holds on the last calendar day or on each earlier one, the session's start and end in
 /// milliseconds of the calendar day, and its K for quoted and for unquoted securities, none where it is free.
@@ -70,18 +87,16 @@ impl Row {
     fn holds(self, last: bool, clock: u32) -> bool
         ensures { result ≡ row_holds last clock self }
     {
-        let day = if self.last { last } else { !last };
-        day && self.start <= clock && clock < self.end
+        self.last == last && (self.start..self.end).contains(&clock)
     }
 
     // The row's slot for a group.
-    fn slot(self, group: u32) -> Slot
+    fn slot(self, group: Group) -> Slot
         ensures { result ≡ row_slot group self }
     {
-        let k = if group == QUOTED {
-            self.quoted
-        } else {
-            self.unquoted
+        let k = match group {
+            Group::Quoted => self.quoted,
+            Group::Unquoted => self.unquoted,
         };
         match k {
             Some(k) => Slot::Bounded(self.session, k),
@@ -91,37 +106,35 @@ impl Row {
 }
 
 // The slot at a time of a calendar day, by the row that holds there.
-fn slot_in(rows: &[Row], last: bool, clock: u32, group: u32) -> Slot
+fn slot_in(rows: &[Row], last: bool, clock: u32, group: Group) -> Slot
     ensures { result ≡ rows_at last clock group rows.now }
 {
-    for row in rows {
-        if row.holds(last, clock) {
-            return row.slot(group);
-        }
-    }
-    Slot::NoSession
+    rows.iter()
+        .find(|row| row.holds(last, clock))
+        .map_or(Slot::NoSession, |row| row.slot(group))
 }
 
 /// The fixed plan of a trading day: the number of its calendar days before the last one, and the security's group.
 #[derive(Clone, Copy)]
 pub struct FixedPlan {
     earlier: u32,
-    group: u32,
+    group: Group,
 }
 
 impl FixedPlan {
-    /// The plan of a trading day of 1 to 10 calendar days, for group 0, quoted, or 1, unquoted.
+    /// The plan of a trading day of 1 to 10 calendar days, for group 0, quoted, or 1, unquoted. The figures are raw, and are judged
+    /// here.
     pub fn new(days: u32, group: u32) -> Result<FixedPlan, Refusal>
         ensures answer { result ≡ fixed_answer days group }
     {
-        if days >= 1 && days <= MOST_DAYS && group <= UNQUOTED {
-            Ok(FixedPlan {
-                earlier: days - 1,
-                group,
-            })
-        } else {
-            Err(Refusal::OutOfRange)
+        let group = Group::try_from(group)?;
+        if !(1..=MOST_DAYS).contains(&days) {
+            return Err(Refusal::OutOfRange);
         }
+        Ok(FixedPlan {
+            earlier: days - 1,
+            group,
+        })
     }
 }
 

@@ -1,63 +1,60 @@
 // Sessions with their codes, what a plan answers at a time, and windows.
 ghost use Rattle.std.specs.Prelude.{◌≡◌};
-ghost use Rattle.plan.specs.Sessions.{code_of, session_of};
+ghost use Rattle.plan.specs.Sessions.{code_of, session_answer};
 
-/// A session of a trading day.
+use entry::refusals::Refusal;
+
+/// A session of a trading day, with its code.
 #[derive(Clone, Copy, PartialEq, Eq, Debug)]
 pub enum Session {
-    Morning,
-    Main,
-    Evening,
-    Weekend,
+    Morning = 1,
+    Main = 2,
+    Evening = 3,
+    Weekend = 4,
 }
 
-impl Session {
-    /// The session's code, 1 to 4.
-    pub fn code(self) -> u8
-        ensures answer { result ≡ code_of self }
-    {
-        match self {
-            Session::Morning => 1,
-            Session::Main => 2,
-            Session::Evening => 3,
-            Session::Weekend => 4,
-        }
-    }
+impl From<Session> for u8 {
+    ghost from_gives = { λ session result. result ≡ code_of session };
 
-    /// The session with a code, or none.
-    pub fn from_code(code: u8) -> Option<Session>
-        ensures answer { result ≡ session_of code }
-    {
+    /// The session's code, 1 to 4.
+    fn from(session: Session) -> u8 {
+        session as u8
+    }
+}
+
+impl TryFrom<u8> for Session {
+    type Error = Refusal;
+
+    ghost try_from_gives = { λ n result. result ≡ session_answer n };
+
+    /// The session with a code. One that no session has is out of range.
+    fn try_from(code: u8) -> Result<Session, Refusal> {
         match code {
-            1 => Some(Session::Morning),
-            2 => Some(Session::Main),
-            3 => Some(Session::Evening),
-            4 => Some(Session::Weekend),
-            _ => None,
+            1 => Ok(Session::Morning),
+            2 => Ok(Session::Main),
+            3 => Ok(Session::Evening),
+            4 => Ok(Session::Weekend),
+            _ => Err(Refusal::OutOfRange),
         }
     }
 }
 
 /// What a plan answers at a time. The dynamic limits have no bounds in a free session, and bounds by K, in thousandths, in a
 /// bounded one.
-#[derive(Clone, Copy, PartialEq, Eq, Debug)]
+// A blank window needs a default with no session, and one match tells the three answers apart. An Option of a struct with an
+// optional K would be matched twice over.
+#[derive(Clone, Copy, PartialEq, Eq, Debug, Default)]
 pub enum Slot {
+    #[default]
     NoSession,
     Free(Session),
     Bounded(Session, u32),
 }
 
-/// A stretch of time with one slot. It contains its start and not its end.
-#[derive(Clone, Copy)]
+/// A stretch of time with one slot. It contains its start and not its end. The default is a blank record.
+#[derive(Clone, Copy, PartialEq, Eq, Debug, Default)]
 pub struct Window {
     pub start: u32,
     pub end: u32,
     pub slot: Slot,
-}
-
-/// Whether the dynamic limits have bounds in an announced window.
-#[derive(Clone, Copy)]
-pub enum Bounding {
-    Free,
-    Bounded,
 }

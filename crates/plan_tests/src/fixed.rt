@@ -18,9 +18,7 @@ const NONE: Slot = Slot::NoSession;
 
 // Each edge of each window, with the main session's slot for the group.
 fn each_edge(rt: &impl Abort, days: u32, group: u32, main: Slot) -> Result<(), Fail> {
-    let Ok(plan) = FixedPlan::new(days, group) else {
-        return Err(Fail::new("refused"));
-    };
+    let plan = FixedPlan::new(days, group)?;
     let last = days.saturating_sub(1);
     let earlier_day = [
         (0, NONE, NONE),
@@ -51,52 +49,55 @@ fn each_edge(rt: &impl Abort, days: u32, group: u32, main: Slot) -> Result<(), F
 
 #[test]
 fn quoted_edges(rt: HostRuntime) -> Result<(), Fail> {
-    for days in &[1, 2, 10] {
-        each_edge(&rt, *days, 0, Slot::Free(Session::Main))?;
+    for days in [1, 2, 10] {
+        each_edge(&rt, days, 0, Slot::Free(Session::Main))?;
     }
     Ok(())
 }
 
 #[test]
 fn unquoted_edges(rt: HostRuntime) -> Result<(), Fail> {
-    for days in &[1, 2, 10] {
-        each_edge(&rt, *days, 1, Slot::Bounded(Session::Main, 220))?;
+    for days in [1, 2, 10] {
+        each_edge(&rt, days, 1, Slot::Bounded(Session::Main, 220))?;
     }
     Ok(())
 }
 
-// Days, a group, and the number that a plan for them is refused with, or 0.
-const MAKINGS: [(u32, u32, u8); 8] = [
-    (0, 0, 1),
-    (11, 0, 1),
-    (u32::MAX, 1, 1),
-    (1, 2, 1),
-    (10, u32::MAX, 1),
-    (10, 1, 0),
-    (1, 0, 0),
-    (5, 1, 0),
+// Days, a group, and what is answered: a plan, or the number of the refusal.
+const MAKINGS: [(u32, u32, Result<(), u8>); 8] = [
+    (0, 0, Err(1)),
+    (11, 0, Err(1)),
+    (u32::MAX, 1, Err(1)),
+    (1, 2, Err(1)),
+    (10, u32::MAX, Err(1)),
+    (10, 1, Ok(())),
+    (1, 0, Ok(())),
+    (5, 1, Ok(())),
 ];
 
 #[test]
 fn days_and_groups(rt: HostRuntime) {
-    for row in &MAKINGS {
-        let (days, group, number) = *row;
-        match FixedPlan::new(days, group) {
-            Ok(_) => assert_eq!(rt; number, 0),
-            Err(refusal) => assert_eq!(rt; refusal.number(), number),
-        }
+    for (days, group, answer) in MAKINGS {
+        let made = FixedPlan::new(days, group);
+        assert_eq!(rt;
+            made.map(|_| ()).map_err(|refusal| refusal.number()),
+            answer
+        );
     }
 }
 
 #[test]
 fn codes_of_sessions(rt: HostRuntime) {
     for code in 0..=255u8 {
-        match Session::from_code(code) {
-            Some(session) => {
-                assert!(rt; 1 <= code && code <= 4);
-                assert_eq!(rt; session.code(), code);
+        match Session::try_from(code) {
+            Ok(session) => {
+                assert!(rt; (1..=4).contains(&code));
+                assert_eq!(rt; u8::from(session), code);
             }
-            None => assert!(rt; code == 0 || code > 4),
+            Err(refusal) => {
+                assert!(rt; code == 0 || code > 4);
+                assert_eq!(rt; refusal, Refusal::OutOfRange);
+            }
         }
     }
 }

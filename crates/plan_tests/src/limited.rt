@@ -23,8 +23,7 @@ const STATIC: [(u32, u32, (u64, u64)); 13] = [
 
 #[test]
 fn static_pairs(rt: HostRuntime) {
-    for row in &STATIC {
-        let (sp, l, pair) = *row;
+    for (sp, l, pair) in STATIC {
         let params = Params {
             sp,
             l,
@@ -50,8 +49,7 @@ const FREE: [(u32, u32, u32, u32, (u64, u64)); 9] = [
 
 #[test]
 fn free_pairs(rt: HostRuntime) {
-    for row in &FREE {
-        let (sp, ur, lr, quotation, pair) = *row;
+    for (sp, ur, lr, quotation, pair) in FREE {
         let params = Params { sp, l: 0, ur, lr };
         assert_eq!(rt; dynamic_limits(params, quotation, None), pair);
     }
@@ -85,8 +83,7 @@ fn bounded_pairs(rt: HostRuntime) {
         ur: 1_300,
         lr: 700,
     };
-    for row in &BOUNDED {
-        let (quotation, session, k, lp, up, down, pair) = *row;
+    for (quotation, session, k, lp, up, down, pair) in BOUNDED {
         let window = BoundedWindow {
             session,
             k,

@@ -7,8 +7,7 @@ pub type Edge = (u32, Slot, Slot);
 
 // The slots one millisecond before each time, at it, and one millisecond after it.
 pub(crate) fn edges<P: Plan>(rt: &impl Abort, plan: &P, start: u32, rows: &[Edge]) {
-    for row in rows {
-        let (time, before, after) = *row;
+    for &(time, before, after) in rows {
         let time = start.wrapping_add(time);
         assert_eq!(rt; plan.slot(time.saturating_sub(1)), before);
         assert_eq!(rt; plan.slot(time), after);

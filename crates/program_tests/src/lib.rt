@@ -25,9 +25,20 @@ mod tests {
         Ok(())
     }
 
-    // A line that is printed as it stands.
-    fn stays(rt: &impl Abort, heap: Global, line: &str) -> Result<(), Fail> {
-        says(rt, heap, line, line)
+    // Lines, each with what it says.
+    fn say(rt: &impl Abort, heap: Global, lines: &[(&str, &str)]) -> Result<(), Fail> {
+        for (line, text) in lines {
+            says(rt, heap, line, text)?;
+        }
+        Ok(())
+    }
+
+    // Lines that are printed as they stand.
+    fn stay(rt: &impl Abort, heap: Global, lines: &[&str]) -> Result<(), Fail> {
+        for line in lines {
+            says(rt, heap, line, line)?;
+        }
+        Ok(())
     }
 
     #[test]
@@ -50,10 +61,7 @@ mod tests {
             "feed day.feed",
             "close",
         ];
-        for line in lines {
-            stays(&rt, rt.alloc(), line)?;
-        }
-        Ok(())
+        stay(&rt, rt.alloc(), &lines)
     }
 
     #[test]
@@ -67,77 +75,63 @@ mod tests {
             "reference 36000004 255 1005",
             "ruling 4294967295 1003",
         ];
-        for line in lines {
-            stays(&rt, rt.alloc(), line)?;
-        }
-        Ok(())
+        stay(&rt, rt.alloc(), &lines)
     }
 
     #[test]
     fn blanks_and_comments_are_passed_over(rt: HostRuntime) -> Result<(), Fail> {
-        let heap = rt.alloc();
-        says(&rt, heap, "", "nothing")?;
-        says(&rt, heap, " \t \r", "nothing")?;
-        says(&rt, heap, "  # all of it", "nothing")?;
-        says(&rt, heap, "\tclock \t 007#noon\r", "clock 7")
+        let lines = [
+            ("", "nothing"),
+            (" \t \r", "nothing"),
+            ("  # all of it", "nothing"),
+            ("\tclock \t 007#noon\r", "clock 7"),
+        ];
+        say(&rt, rt.alloc(), &lines)
     }
 
     #[test]
     fn each_fault_says_what_is_wrong(rt: HostRuntime) -> Result<(), Fail> {
-        let heap = rt.alloc();
-        says(&rt, heap, "pots 1", "unknown command 'pots'")?;
-        says(&rt, heap, "post 1 buy 0", "PRICE is missing")?;
-        says(&rt, heap, "post 1", "buy or sell is missing")?;
-        says(&rt, heap, "post 1 bye 0 5", "'bye' is neither buy nor sell")?;
-        says(&rt, heap, "clock 5 x", "one word too many: 'x'")?;
-        says(&rt, heap, "feed", "FILE is missing")?;
-        says(
-            &rt,
-            heap,
-            "plan maybe",
-            "'maybe' is neither fixed nor announced",
-        )
+        let lines = [
+            ("pots 1", "unknown command 'pots'"),
+            ("post 1 buy 0", "PRICE is missing"),
+            ("post 1", "buy or sell is missing"),
+            ("post 1 bye 0 5", "'bye' is neither buy nor sell"),
+            ("clock 5 x", "one word too many: 'x'"),
+            ("feed", "FILE is missing"),
+            ("plan maybe", "'maybe' is neither fixed nor announced"),
+        ];
+        say(&rt, rt.alloc(), &lines)
     }
 
     #[test]
     fn figures_are_digits_alone(rt: HostRuntime) -> Result<(), Fail> {
-        let heap = rt.alloc();
-        says(
-            &rt,
-            heap,
-            "clock 12a",
-            "TIME '12a' is not a whole number from 0 to 4294967295",
-        )?;
-        says(
-            &rt,
-            heap,
-            "clock +5",
-            "TIME '+5' is not a whole number from 0 to 4294967295",
-        )?;
-        says(
-            &rt,
-            heap,
-            "clock -5",
-            "TIME '-5' is not a whole number from 0 to 4294967295",
-        )?;
-        says(
-            &rt,
-            heap,
-            "clock é",
-            "TIME 'é' is not a whole number from 0 to 4294967295",
-        )?;
-        says(
-            &rt,
-            heap,
-            "clock 4294967296",
-            "TIME '4294967296' is not a whole number from 0 to 4294967295",
-        )?;
-        says(
-            &rt,
-            heap,
-            "trade 1 256 5 1",
-            "MODE '256' is not a whole number from 0 to 255",
-        )
+        let lines = [
+            (
+                "clock 12a",
+                "TIME '12a' is not a whole number from 0 to 4294967295",
+            ),
+            (
+                "clock +5",
+                "TIME '+5' is not a whole number from 0 to 4294967295",
+            ),
+            (
+                "clock -5",
+                "TIME '-5' is not a whole number from 0 to 4294967295",
+            ),
+            (
+                "clock é",
+                "TIME 'é' is not a whole number from 0 to 4294967295",
+            ),
+            (
+                "clock 4294967296",
+                "TIME '4294967296' is not a whole number from 0 to 4294967295",
+            ),
+            (
+                "trade 1 256 5 1",
+                "MODE '256' is not a whole number from 0 to 255",
+            ),
+        ];
+        say(&rt, rt.alloc(), &lines)
     }
 
     // The lines of the feed of a script.

@@ -1,5 +1,6 @@
 -- A side's levels against the history: the first is the best, and what crossing, ripeness and a leave read off it.
 use Rattle.std.proofs.Common.{◌≡◌, ℕ, ◌-◌, ◌<◌, Bool, true, false, not, ◌&&◌, eqb, ltb, leb, List, [], ◌∷◌, Some, None, Decides, Option, sym, refl, ap, ◌∙◌, subst, inl, inr, arith}
+use Rattle.std.proofs.lemmas.Option.{none-some}
 use Rattle.std.proofs.lemmas.Bool.Decides.{nat_tests, Decides-ltb, Decides-and, not_from_Decides}
 use Rattle.std.proofs.lemmas.Bool.{cases_eq, cond_both, cond-true, cond-false, eq-eqb, ne_eqb, and_parts, and_from, both_ways, leb-true, le-leb, eqb-true}
 use Rattle.entry.specs.declared.Side.{Side}
@@ -10,11 +11,12 @@ use Rattle.board.specs.declared.levels.Level.{Level}
 use Rattle.board.specs.Book.{better, level_at, first}
 use Rattle.board.specs.Sound.{Sorted}
 use Rattle.rules.specs.declared.figures.Forerunner.{Forerunner}
-use Rattle.rules.specs.declared.figures.Forerunners.{Forerunners}
+use Rattle.rules.specs.Figures.{Forerunners}
 use Rattle.rules.specs.Readings.{full_time, credit_of, forerunner_of}
 use Rattle.rules.specs.Checks.{meets}
 use Rattle.rules.specs.Effects.{with_forerunner, ended}
-use Rattle.rules.specs.History.{Opening, other, Better, left, standing, stands_since, shown, level, Best, Clear, Forerun, Credits, Requires, Ripe}
+use Rattle.entry.specs.Sides.{other_side}
+use Rattle.rules.specs.History.{Opening, Better, left, standing, stands_since, shown, level, Best, Clear, Forerun, Credits, Requires, Ripe}
 use Rattle.rules.specs.Promise.{Timely}
 use Rattle.rules.proofs.Sides.{better_is, better_trans, better_or, same_self}
 use Rattle.rules.proofs.Boards.{none_before}
@@ -24,9 +26,6 @@ use Rattle.rules.proofs.Past.{unbroken_aged, aged_unbroken, one-best, one-foreru
 pub record Shows (h : List Entry) (s : Side) (ls : List Level) : Type 0 where
   pub sorted : Sorted s ls
   pub levels : (x : ℕ) → level_at x ls ≡ level h s x
-
-some≢none : {A : Type 0} (x : A) → Some x ≡ None → ⊥
-some≢none x e = let z : ◌≡◌ {A = ℕ} 0 1 = cc in omega arith
 
 -- what a level that is shown tells
 pub record IsShown (n x u : ℕ) (l : Level) : Type 0 where
@@ -41,7 +40,7 @@ some_is l k e = cc
 pub shown-some : (n x u : ℕ) (l : Level) → Some l ≡ shown n x u → IsShown n x u l
 shown-some n x u l e =
     elim (cases_eq n 0) [
-      | inl z ↦ absurd (some≢none l (e ∙ cond-true _ _ _ (eq-eqb n 0 z)))
+      | inl z ↦ absurd (none-some l (sym (e ∙ cond-true _ _ _ (eq-eqb n 0 z))))
       | inr z ↦
           let i = some_is l _ (e ∙ cond-false _ _ _ (ne_eqb n 0 z)) in
           record { some = omega arith; orders = ap (λ k. k.orders) i; price = ap (λ k. k.price) i; since = ap (λ k. k.since) i }
@@ -51,7 +50,7 @@ pub shown-none : (n x u : ℕ) → None ≡ shown n x u → n ≡ 0
 shown-none n x u e =
     elim (cases_eq n 0) [
       | inl z ↦ z
-      | inr z ↦ absurd (some≢none _ (sym (cond-false _ _ _ (ne_eqb n 0 z)) ∙ sym e))
+      | inr z ↦ absurd (none-some _ (e ∙ cond-false _ _ _ (ne_eqb n 0 z)))
     ]
 
 module _ (h : List Entry) (s : Side) where
@@ -77,16 +76,16 @@ module _ (h : List Entry) (s : Side) where
 
 -- ── crossing ──
 
-apart_is : (s : Side) (p : ℕ) (x : Level) → Decides (not (meets s p (Some x))) (Better (other s) p x.price)
+apart_is : (s : Side) (p : ℕ) (x : Level) → Decides (not (meets s p (Some x))) (Better (other_side s) p x.price)
 apart_is Buy p x = grind (arith, nat_tests)
 apart_is Sell p x = grind (arith, nat_tests)
 
 -- an order is clear of the other side if it is before every price that stands there
-clear_from : (h : List Entry) (s : Side) (p : ℕ) → ((y : ℕ) → 0 < standing h (other s) y → Better (other s) p y) → Clear h s p
+clear_from : (h : List Entry) (s : Side) (p : ℕ) → ((y : ℕ) → 0 < standing h (other_side s) y → Better (other_side s) p y) → Clear h s p
 clear_from h Buy p c = c
 clear_from h Sell p c = c
 
-pub clear_to : (h : List Entry) (s : Side) (p : ℕ) → Clear h s p → (y : ℕ) → 0 < standing h (other s) y → Better (other s) p y
+pub clear_to : (h : List Entry) (s : Side) (p : ℕ) → Clear h s p → (y : ℕ) → 0 < standing h (other_side s) y → Better (other_side s) p y
 clear_to h Buy p c = c
 clear_to h Sell p c = c
 
@@ -97,17 +96,17 @@ best-past h s p x y b k n =
       | inr o ↦ elim o [ inl g ↦ better_trans s p x y k g | inr g ↦ absurd (b.1 y n g) ]
     ]
 
-pub clear_is : (h : List Entry) (s : Side) (p : ℕ) (ls : List Level) → Shows h (other s) ls → Decides (not (meets s p (first ls))) (Clear h s p)
+pub clear_is : (h : List Entry) (s : Side) (p : ℕ) (ls : List Level) → Shows h (other_side s) ls → Decides (not (meets s p (first ls))) (Clear h s p)
 clear_is h s p [] w =
-    ((λ _. clear_from h s p (λ y n. absurd (let z = none_stands h (other s) w y in omega arith))), λ _. none-met s)
+    ((λ _. clear_from h s p (λ y n. absurd (let z = none_stands h (other_side s) w y in omega arith))), λ _. none-met s)
   where
     none-met : (s : Side) → not (meets s p None) ≡ true
     none-met Buy = refl
     none-met Sell = refl
 clear_is h s p (l ∷ ls) w =
     let d = apart_is s p l in
-    let b = head_best h (other s) l ls w in (
-      (λ e. clear_from h s p (λ y n. best-past h (other s) p l.price y b (d.0 e) n)),
+    let b = head_best h (other_side s) l ls w in (
+      (λ e. clear_from h s p (λ y n. best-past h (other_side s) p l.price y b (d.0 e) n)),
       λ c. d.1 (clear_to h s p c l.price b.0),
     )
 
@@ -170,7 +169,7 @@ forerunner_own : (f : Forerunners) (s : Side) (x : Forerunner) → forerunner_of
 forerunner_own f Buy x = refl
 forerunner_own f Sell x = refl
 
-forerunner-other : (f : Forerunners) (s : Side) (x : Forerunner) → forerunner_of (with_forerunner f s x) (other s) ≡ forerunner_of f (other s)
+forerunner-other : (f : Forerunners) (s : Side) (x : Forerunner) → forerunner_of (with_forerunner f s x) (other_side s) ≡ forerunner_of f (other_side s)
 forerunner-other f Buy x = refl
 forerunner-other f Sell x = refl
 
@@ -206,8 +205,8 @@ forerun-leave h s (l ∷ ls) p t fs w r =
       r,
     ))
 
-pub forerunner_kept : (s : Side) (ls : List Level) (p t : ℕ) (fs : Forerunners) → forerunner_of (ended fs s p t (first ls)) (other s) ≡ forerunner_of fs (other s)
+pub forerunner_kept : (s : Side) (ls : List Level) (p t : ℕ) (fs : Forerunners) → forerunner_of (ended fs s p t (first ls)) (other_side s) ≡ forerunner_of fs (other_side s)
 forerunner_kept s [] p t fs = refl
 forerunner_kept s (l ∷ ls) p t fs =
-    cond_both (eqb l.price p && eqb l.orders 1) _ _ (λ (g : Forerunners). forerunner_of g (other s) ≡ forerunner_of fs (other s))
+    cond_both (eqb l.price p && eqb l.orders 1) _ _ (λ (g : Forerunners). forerunner_of g (other_side s) ≡ forerunner_of fs (other_side s))
     (λ _. forerunner-other fs s _) (λ _. refl)

@@ -9,7 +9,7 @@ use Rattle.board.specs.Levels.{new_level, joined, left, single, less_answer}
 use Rattle.board.specs.Book.{Book, better, level_at, levels_of, with_levels}
 use Rattle.board.specs.Calls.{added, taken}
 use Rattle.board.specs.Sound.{Behind, Sorted}
-use Rattle.rules.specs.History.{other}
+use Rattle.entry.specs.Sides.{other_side}
 use Rattle.rules.proofs.Sides.{better_is, better_trans, better_differs, better_or}
 
 -- a level with one order more, or a new one; a level with one order less, if any is left
@@ -122,7 +122,7 @@ sorted-taken s p (x ∷ ls) k =
     (λ _. (behind_taken s x.price p ls k.0, ih))
 
 -- what holds of a side's new levels, and of the other side's old ones, holds of both sides
-pub on_sides : (b : Book) (s : Side) (ls : List Level) (P : Side → List Level → Type 0) → P s ls → P (other s) (levels_of b (other s)) → (r : Side) → P r (levels_of (with_levels b s ls) r)
+pub on_sides : (b : Book) (s : Side) (ls : List Level) (P : Side → List Level → Type 0) → P s ls → P (other_side s) (levels_of b (other_side s)) → (r : Side) → P r (levels_of (with_levels b s ls) r)
 on_sides b Buy ls P p q Buy = p
 on_sides b Buy ls P p q Sell = q
 on_sides b Sell ls P p q Buy = q

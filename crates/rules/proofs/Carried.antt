@@ -11,12 +11,13 @@ use Rattle.plan.specs.declared.slots.Slot.{Slot}
 use Rattle.plan.specs.declared.slots.Slot.TheVariants.{NoSession, Free, Bounded}
 use Rattle.plan.specs.Sessions.{session_of}
 use Rattle.plan.specs.Hours.{slot_at}
-use Rattle.rules.specs.declared.figures.Marks.{Marks}
+use Rattle.rules.specs.Figures.{Marks}
 use Rattle.rules.specs.declared.figures.References.{References}
 use Rattle.rules.specs.Readings.{lp_of, forerunner_of}
 use Rattle.rules.specs.Checks.{State}
 use Rattle.rules.specs.Effects.{params_after, entered, references_after, marked, marked_in, marks_after, ended, forerunners_after}
-use Rattle.rules.specs.History.{Opening, other, left, params, lp, MainBounded, Far, Marked, above, below, Forerun, AreParams, InRange}
+use Rattle.entry.specs.Sides.{other_side}
+use Rattle.rules.specs.History.{Opening, left, params, lp, MainBounded, Far, Marked, above, below, Forerun, AreParams, InRange}
 use Rattle.rules.specs.Promise.{Agrees, references}
 use Rattle.rules.proofs.Sides.{side_or, same-other}
 use Rattle.rules.proofs.Bests.{forerun-leave, forerunner_kept}
@@ -135,8 +136,8 @@ module _ (o : Opening) (h : List Entry) (w : State) (v : Agrees o h w) where
         | inl k ↦ subst (λ (z : Side). Forerun (Leave t r x ∷ h) z (forerunner_of (ended w.day.forerunners r x t (first (levels_of w.book r))) z)) k.0
             (forerun-leave h r (levels_of w.book r) x t w.day.forerunners (shows o h w v r) (forerun o h w v r))
         | inr k ↦ subst (λ (z : Side). Forerun (Leave t r x ∷ h) z (forerunner_of (ended w.day.forerunners r x t (first (levels_of w.book r))) z)) (sym k.0)
-            (subst (Forerun (Leave t r x ∷ h) (other r)) (sym (forerunner_kept r (levels_of w.book r) x t w.day.forerunners))
-            (forerun-kept (Leave t r x) (other r) (λ y. and_left _ _ (same-other r))))
+            (subst (Forerun (Leave t r x ∷ h) (other_side r)) (sym (forerunner_kept r (levels_of w.book r) x t w.day.forerunners))
+            (forerun-kept (Leave t r x) (other_side r) (λ y. and_left _ _ (same-other r))))
       ]
   forerun_after (Trade t m x n) s = forerun-kept (Trade t m x n) s (λ _. refl)
   forerun_after (Parameters t p) s = forerun-kept (Parameters t p) s (λ _. refl)

@@ -10,7 +10,8 @@ use Rattle.board.specs.declared.levels.Level.{Level}
 use Rattle.board.specs.Book.{Book, level_at, levels_of, with_levels}
 use Rattle.board.specs.Calls.{added, taken}
 use Rattle.board.specs.Sound.{Sorted}
-use Rattle.rules.specs.History.{at, same, other, posted, left, posts, leaves, standing, stands_since, shown, level, Uncrossed, Clear}
+use Rattle.entry.specs.Sides.{other_side}
+use Rattle.rules.specs.History.{at, same, posted, left, posts, leaves, standing, stands_since, shown, level, Uncrossed, Clear}
 use Rattle.rules.proofs.Sides.{side_or, same_self, same-other}
 use Rattle.rules.proofs.Boards.{grown, fewer, at-added-same, at-added-other, at-taken-same, at-taken-other, sorted-added, sorted-taken, on_sides}
 use Rattle.rules.proofs.Past.{standing-posted, standing-left, standing_kept}
@@ -100,8 +101,8 @@ module _ (h : List Entry) (b : Book) (v : Stocked h b) (t : ℕ) (s : Side) (p :
   posted-not : (y : ℕ) → (p ≡ y → ⊥) → posted (Post t s 0 p) s y ≡ false
   posted-not y n = and_right (same s s) (eqb p y) (ne_eqb p y n)
 
-  posted-other : (y : ℕ) → posted (Post t s 0 p) (other s) y ≡ false
-  posted-other y = and_left (same s (other s)) (eqb p y) (same-other s)
+  posted-other : (y : ℕ) → posted (Post t s 0 p) (other_side s) y ≡ false
+  posted-other y = and_left (same s (other_side s)) (eqb p y) (same-other s)
 
   added-own : (y : ℕ) → level_at y (added s p t (levels_of b s)) ≡ level (Post t s 0 p ∷ h) s y
   added-own y =
@@ -116,7 +117,7 @@ module _ (h : List Entry) (b : Book) (v : Stocked h b) (t : ℕ) (s : Side) (p :
   post-levels : (r : Side) (y : ℕ) → level_at y (levels_of (with_levels b s (added s p t (levels_of b s))) r) ≡ level (Post t s 0 p ∷ h) r y
   post-levels =
       on_sides b s _ (λ r ls. (y : ℕ) → level_at y ls ≡ level (Post t s 0 p ∷ h) r y) added-own
-      (λ y. v.levels (other s) y ∙ sym (level_kept (Post t s 0 p) h (other s) y (posted-other y) refl))
+      (λ y. v.levels (other_side s) y ∙ sym (level_kept (Post t s 0 p) h (other_side s) y (posted-other y) refl))
 
   post-enough : (s' : Side) (y : ℕ) → leaves h s' y ≤ posts (Post t s 0 p ∷ h) s' y
   post-enough s' y = let n = v.enough s' y in grind (arith, nat_tests)
@@ -159,7 +160,7 @@ pub stocked_post : (h : List Entry) (b : Book) (t : ℕ) (s : Side) (p : ℕ) �
 stocked_post h b t s p v c = record {
   levels = post-levels h b v t s p;
   enough = post-enough h b v t s p;
-  sorted = on_sides b s _ Sorted (sorted-added s p t (levels_of b s) (v.sorted s)) (v.sorted (other s));
+  sorted = on_sides b s _ Sorted (sorted-added s p t (levels_of b s) (v.sorted s)) (v.sorted (other_side s));
   uncrossed = post-uncrossed h b v t s p c;
 }
 
@@ -181,7 +182,7 @@ module _ (h : List Entry) (b : Book) (v : Stocked h b) (t : ℕ) (s : Side) (p :
   leave-levels : (r : Side) (y : ℕ) → level_at y (levels_of (with_levels b s (taken p (levels_of b s))) r) ≡ level (Leave t s p ∷ h) r y
   leave-levels =
       on_sides b s _ (λ r ls. (y : ℕ) → level_at y ls ≡ level (Leave t s p ∷ h) r y) taken_own
-      (λ y. v.levels (other s) y ∙ sym (level_kept (Leave t s p) h (other s) y refl (and_left (same s (other s)) (eqb p y) (same-other s))))
+      (λ y. v.levels (other_side s) y ∙ sym (level_kept (Leave t s p) h (other_side s) y refl (and_left (same s (other_side s)) (eqb p y) (same-other s))))
 
   leave-enough : 0 < standing h s p → (s' : Side) (y : ℕ) → leaves (Leave t s p ∷ h) s' y ≤ posts h s' y
   leave-enough n s' y =
@@ -202,6 +203,6 @@ pub stocked_leave : (h : List Entry) (b : Book) (t : ℕ) (s : Side) (p : ℕ) �
 stocked_leave h b t s p v n = record {
   levels = leave-levels h b v t s p;
   enough = leave-enough h b v t s p n;
-  sorted = on_sides b s _ Sorted (sorted-taken s p (levels_of b s) (v.sorted s)) (v.sorted (other s));
+  sorted = on_sides b s _ Sorted (sorted-taken s p (levels_of b s) (v.sorted s)) (v.sorted (other_side s));
   uncrossed = λ x y k m. v.uncrossed x y (fewer-stand h b v t s p Buy x k) (fewer-stand h b v t s p Sell y m);
 }

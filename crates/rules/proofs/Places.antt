@@ -11,7 +11,7 @@ use Rattle.board.specs.Calls.{has_place, join_answer, leave_answer}
 use Rattle.board.specs.Sound.{Behind, Sorted}
 use Rattle.rules.specs.Checks.{number_of, by_board}
 use Rattle.rules.specs.History.{Opening, Better, standing, stands_since, level, Among, AllWorse, BestFirst, Prices, HasPlace, Check, passes, fails, Accepted}
-use Rattle.rules.proofs.Sides.{better_is, better_trans, better_not_self}
+use Rattle.rules.proofs.Sides.{better_is, better_trans, better_differs}
 use Rattle.rules.proofs.Tested.{decides_leb}
 use Rattle.rules.proofs.Bests.{Shows, shown-some, shown-none}
 
@@ -83,13 +83,13 @@ as_long s (p ∷ ps) (q ∷ qs) k m f g =
     leading : Among p (q ∷ qs) → Among q (p ∷ ps) → p ≡ q
     leading (inl i) b = i
     leading (inr a) (inl i) = sym i
-    leading (inr a) (inr b) = absurd (better_not_self s p (better_trans s p q p (worse_than s p q ps k.0 b) (worse_than s q p qs m.0 a)))
+    leading (inr a) (inr b) = absurd (better_differs s p p (better_trans s p q p (worse_than s p q ps k.0 b) (worse_than s q p qs m.0 a)) refl)
 
     alike : p ≡ q
     alike = leading (f p (inl refl)) (g q (inl refl))
 
     rest : (p q x : ℕ) (ps qs : List ℕ) → p ≡ q → AllWorse s p ps → Among x ps → Among x (q ∷ qs) → Among x qs
-    rest p q x ps qs i w a (inl j) = absurd (better_not_self s p (subst (λ (z : ℕ). Better s p z) (j ∙ sym i) (worse_than s p x ps w a)))
+    rest p q x ps qs i w a (inl j) = absurd (better_differs s p x (worse_than s p x ps w a) (i ∙ sym j))
     rest p q x ps qs i w a (inr b) = b
 
 -- a side has fewer levels than n exactly if the history says so

@@ -5,7 +5,8 @@ use Rattle.std.proofs.lemmas.Bool.{cases_order}
 use Rattle.entry.specs.declared.Side.{Side}
 use Rattle.entry.specs.declared.Side.TheVariants.{Buy, Sell}
 use Rattle.board.specs.Book.{better}
-use Rattle.rules.specs.History.{same, other, Better}
+use Rattle.entry.specs.Sides.{other_side}
+use Rattle.rules.specs.History.{same, Better}
 
 pub better_is : (s : Side) (x y : ℕ) → Decides (better s x y) (Better s x y)
 better_is Buy x y = Decides-ltb y x
@@ -14,10 +15,6 @@ better_is Sell x y = Decides-ltb x y
 pub better_trans : (s : Side) (x y z : ℕ) → Better s x y → Better s y z → Better s x z
 better_trans Buy x y z p q = omega arith
 better_trans Sell x y z p q = omega arith
-
-pub better_not_self : (s : Side) (x : ℕ) → Better s x x → ⊥
-better_not_self Buy x p = omega arith
-better_not_self Sell x p = omega arith
 
 pub better_differs : (s : Side) (x y : ℕ) → Better s x y → x ≡ y → ⊥
 better_differs Buy x y p e = omega arith
@@ -29,7 +26,7 @@ better_or Buy x y = elim (cases_order x y) [ inl e ↦ inl e | inr o ↦ elim o 
 better_or Sell x y = cases_order x y
 
 -- two sides are the same, or the one is the other's other
-pub side_or : (s s' : Side) → ((s ≡ s') × (same s s' ≡ true)) ⊎ ((s' ≡ other s) × (same s s' ≡ false))
+pub side_or : (s s' : Side) → ((s ≡ s') × (same s s' ≡ true)) ⊎ ((s' ≡ other_side s) × (same s s' ≡ false))
 side_or Buy Buy = inl (refl, refl)
 side_or Buy Sell = inr (refl, refl)
 side_or Sell Buy = inr (refl, refl)
@@ -39,6 +36,6 @@ pub same_self : (s : Side) → same s s ≡ true
 same_self Buy = refl
 same_self Sell = refl
 
-pub same-other : (s : Side) → same s (other s) ≡ false
+pub same-other : (s : Side) → same s (other_side s) ≡ false
 same-other Buy = refl
 same-other Sell = refl

@@ -1,6 +1,6 @@
 -- One entry: it is answered by the table, and an accepted one keeps day and board to the history.
-use Rattle.std.proofs.Common.{◌≡◌, ℕ, ◌<◌, Bool, true, false, cond, eqb, List, ◌∷◌, Ok, Err, Result, sym, refl, ap, ◌∙◌, subst, arith}
-use Rattle.std.proofs.lemmas.Bool.{cond_both, eqb-true, and_left, false≢true}
+use Rattle.std.proofs.Common.{◌≡◌, ℕ, ◌<◌, true, eqb, List, ◌∷◌, Ok, Err, Result, sym, refl, ap, ◌∙◌, subst, arith}
+use Rattle.std.proofs.lemmas.Bool.{cond_both, eqb-true, and_left, cond-true}
 use Rattle.entry.specs.declared.Side.{Side}
 use Rattle.entry.specs.declared.Side.TheVariants.{Buy, Sell}
 use Rattle.entry.specs.declared.Entry.{Entry}
@@ -39,9 +39,9 @@ number_positive why.TrailShort = omega arith
 number_positive why.BoardNotEmpty = omega arith
 number_positive why.WindowOverlaps = omega arith
 number_positive why.TooManyWindows = omega arith
-number_positive (why.FeedEnds a b) = omega arith
-number_positive (why.UnknownKind a b) = omega arith
-number_positive (why.SpareBitSet a b) = omega arith
+number_positive (why.FeedEnds place) = omega arith
+number_positive (why.UnknownKind place) = omega arith
+number_positive (why.SpareBitSet place) = omega arith
 number_positive why.FeedTooLong = omega arith
 number_positive why.OutputShort = omega arith
 
@@ -50,24 +50,20 @@ number_positive why.OutputShort = omega arith
 -- what the last of several checks answered
 last_ok : (a b : Answer) → and_then a b ≡ Ok tt → b ≡ Ok tt
 last_ok (Ok v) b e = e
-last_ok (Err x) b e = absurd (let z : ◌≡◌ {A = ℕ} 0 1 = cc in omega arith)
+last_ok (Err x) b e = cc
 
 board_ok : (r : Result (Unit {0}) BoardFault) → by_board r ≡ Ok tt → r ≡ Ok tt
 board_ok (Ok v) e = refl
-board_ok (Err f) e = absurd (let z : ◌≡◌ {A = ℕ} 0 1 = cc in omega arith)
+board_ok (Err f) e = cc
 
 done : {X E : Type 0} (r : Result (Unit {0}) E) (new old : X) → r ≡ Ok tt → on_ok r new old ≡ new
 done r new old e = ap (λ k. on_ok k new old) e
-
-cond_ok : (b : Bool) (x : Answer) → b ≡ true → cond b x (Ok tt) ≡ Ok tt → x ≡ Ok tt
-cond_ok true x t e = e
-cond_ok false x t e = absurd (false≢true t)
 
 -- an accepted post of main trading, and an accepted leave, were accepted by the board
 post_board : (hours : List Window) (w : State) (t : ℕ) (s : Side) (m p : ℕ) → eqb m 0 ≡ true → answer hours w (Post t s m p) ≡ Ok tt → add_answer w.book s p ≡ Ok tt
 post_board hours w t s m p i a =
     let b = last_ok (must (is_in_range (Post t s m p)) why.OutOfRange) _ a in
-    let c = cond_ok (eqb m 0) _ i (last_ok (listed hours w.day t p) _ b) in
+    let c = sym (cond-true (eqb m 0) _ _ i) ∙ last_ok (listed hours w.day t p) _ b in
     let d = last_ok (in_side w.day s p (quotation_at w.day w.book t) (slot_at hours t)) _ c in
     board_ok _ (last_ok (apart w.book s p) _ d)
 

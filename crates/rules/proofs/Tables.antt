@@ -19,11 +19,11 @@ use Rattle.plan.specs.Sessions.{code_of}
 use Rattle.plan.specs.Hours.{slot_at}
 use Rattle.limits.specs.declared.BoundedWindow.{BoundedWindow}
 use Rattle.limits.specs.Rounded.{static_limits, dynamic_limits}
-use Rattle.rules.specs.declared.figures.DaysLeft.{DaysLeft}
+use Rattle.rules.specs.Figures.{DaysLeft}
 use Rattle.rules.specs.declared.figures.References.{References}
 use Rattle.rules.specs.Readings.{or_else, reference_of, lp_of, window_of, static_of, dynamic_of, quotation_at}
 use Rattle.rules.specs.Checks.{State, Answer, number_of, must, and_then, last_time, is_session, within, side_within, meets, other_side, main_order, answer}
-use Rattle.rules.specs.History.{Opening, at, other, standing, reference, given, lp, params, bounds, Clear, InStatic, UpToDynamic, FromDynamic, InSide, InRange, OnTime, HasPlace, Check, passes, fails, Accepted, Table, Within}
+use Rattle.rules.specs.History.{Opening, at, standing, reference, given, lp, params, bounds, Clear, InStatic, UpToDynamic, FromDynamic, InSide, InRange, OnTime, HasPlace, Check, passes, fails, Accepted, Table, Within}
 use Rattle.rules.specs.Promise.{Agrees, references}
 use Rattle.rules.proofs.Bests.{clear_is}
 use Rattle.rules.proofs.Places.{board_row, take_row}
@@ -117,14 +117,10 @@ table-held o h t s x k = (passed (passed (passed k).1).1).0
 
 -- ── the day's tests against the history ──
 
-other_is : (s : Side) → other_side s ≡ other s
-other_is Buy = refl
-other_is Sell = refl
-
 session_is : (slot : Slot) → Decides (is_session slot) (slot ≡ NoSession → ⊥)
 session_is NoSession = ((λ e. absurd (false≢true e)), λ f. absurd (f refl))
-session_is (Free s) = ((λ _ e. let z : ◌≡◌ {A = ℕ} 0 1 = cc in omega arith), λ _. refl)
-session_is (Bounded s k) = ((λ _ e. let z : ◌≡◌ {A = ℕ} 0 1 = cc in omega arith), λ _. refl)
+session_is (Free s) = ((λ _ e. cc), λ _. refl)
+session_is (Bounded s k) = ((λ _ e. cc), λ _. refl)
 
 reference-of : (h : List Entry) (s : Session) → reference_of (references h) s ≡ reference h s
 reference-of h Morning = refl
@@ -175,9 +171,7 @@ module _ (o : Opening) (h : List Entry) (w : State) (v : Agrees o h w) where
   both-here t x = Decides-and _ _ (side-here t Sell x) (side-here t Buy x)
 
   apart-here : (s : Side) (x : ℕ) → Decides (not (meets s x (best_of w.book (other_side s)))) (Clear h s x)
-  apart-here s x =
-      subst (λ (r : Side). Decides (not (meets s x (best_of w.book r))) (Clear h s x)) (sym (other_is s))
-      (clear_is h s x (levels_of w.book (other s)) (shows o h w v (other s)))
+  apart-here s x = clear_is h s x (levels_of w.book (other_side s)) (shows o h w v (other_side s))
 
   -- ── the answer ──
 

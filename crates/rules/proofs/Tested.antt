@@ -41,10 +41,10 @@ static_is p x = Decides-and _ _ (from_least _ x (static_lower p)) (to_greatest _
 
 module _ (p : Params) (q : ℕ) (b : Option BoundedWindow) (sound : p.lr ≤ p.ur) (x : ℕ) where
   pub lower_is : Decides (leb (dynamic_limits p q b).0 x) (FromDynamicLower p q b x)
-  lower_is = from_least _ x (lower_exact p q b sound)
+  lower_is = from_least _ x (lower_exact p q b _ refl sound)
 
   pub upper_is : Decides (leb x (dynamic_limits p q b).1) (ToDynamicUpper p q b x)
-  upper_is = to_greatest _ x (upper_exact p q b sound)
+  upper_is = to_greatest _ x (upper_exact p q b _ refl sound)
 
   pub dynamic_is : Decides (within x (dynamic_limits p q b)) (FromDynamicLower p q b x × ToDynamicUpper p q b x)
   dynamic_is = Decides-and _ _ lower_is upper_is

@@ -1,5 +1,6 @@
 -- Opening, every list of entries, every list of calls, striking, limits and close: the whole promise.
 use Rattle.std.proofs.Common.{◌≡◌, ℕ, ◌-◌, ◌<◌, Bool, true, false, cond, eqb, leb, List, [], ◌∷◌, ◌++◌, Some, None, Ok, Err, Decides, Option, sym, refl, ap, ◌∙◌, subst, inl, inr, arith}
+use Rattle.std.proofs.lemmas.Option.{none-some}
 use Rattle.std.proofs.lemmas.Bool.Decides.{Decides-and, not_from_Decides, nat_tests}
 use Rattle.std.proofs.lemmas.Bool.{cond-true, eq-eqb, ne_eqb, and_parts, false≢true}
 use Rattle.entry.specs.declared.Side.{Side}
@@ -32,14 +33,11 @@ use Rattle.rules.proofs.Steps.{number_positive, told}
 
 -- ── opening ──
 
-some≢none : {A : Type 0} (x : A) → Some x ≡ None → ⊥
-some≢none x e = let z : ◌≡◌ {A = ℕ} 0 1 = cc in omega arith
-
 -- no level stands on a side exactly if it has none
 none_is : (ls : List Level) → Decides (none ls) ((x : ℕ) → level_at x ls ≡ None)
 none_is [] = ((λ _ _. refl), λ _. refl)
 none_is (l ∷ ls) =
-    ((λ e. absurd (false≢true e)), λ f. absurd (some≢none l (sym (cond-true _ _ _ (eq-eqb l.price l.price refl)) ∙ f l.price)))
+    ((λ e. absurd (false≢true e)), λ f. absurd (none-some l (sym (f l.price) ∙ cond-true _ _ _ (eq-eqb l.price l.price refl))))
 
 pub empty_is : (b : Book) → Decides (is_empty b) (NoLevel b)
 empty_is b =
@@ -179,7 +177,7 @@ module _ (o : Opening) (h : List Entry) (w : State) (v : Agrees o h w) where
       let q = quotation_at w.day w.book t in
       let b = bounds o h (slot_at o.hours t) in
       subst (DynamicPair o h t) (sym (dynamic-of o h w v q (slot_at o.hours t)))
-      (q, quoted_at o h w v t, lower_exact (params o h) q b v.params_sound.3, upper_exact (params o h) q b v.params_sound.3)
+      (q, quoted_at o h w v t, lower_exact (params o h) q b _ refl v.params_sound.3, upper_exact (params o h) q b _ refl v.params_sound.3)
 
   days-marked : (b : Bool) {M : Type 0} (n m : ℕ) → Decides b M → n ≡ m → (M → days_after b n ≡ 2) × ((M → ⊥) → days_after b n ≡ m - 1)
   days-marked true n m d e = ((λ _. refl), λ f. absurd (f (d.0 refl)))

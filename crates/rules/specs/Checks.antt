@@ -8,9 +8,10 @@ use Rattle.entry.specs.declared.Entry.TheVariants.{Clock, Post, Leave, Trade, Pa
 use Rattle.entry.specs.declared.refusals.Refusal.{Refusal}
 use Rattle.entry.specs.declared.refusals.Refusal.TheVariants as why
 use Rattle.entry.specs.Refusals.{number}
+pub use Rattle.entry.specs.Sides.{other_side}
 use Rattle.board.specs.declared.levels.Level.{Level}
 use Rattle.board.specs.declared.faults.BoardFault.{BoardFault}
-use Rattle.board.specs.declared.faults.BoardFault.TheVariants as fault
+pub use Rattle.board.specs.Faults.{refusal_of}
 use Rattle.board.specs.Book.{Book, best_of}
 use Rattle.board.specs.Calls.{add_answer, take_answer}
 use Rattle.plan.specs.declared.slots.Slot.{Slot}
@@ -104,10 +105,6 @@ side_within Sell p lim = nat_le lim.0 p
 abbrev pub in_side : OpenFigures → Side → ℕ → ℕ → Slot → Answer
 in_side d s p q slot = must (side_within s p (dynamic_of d q slot)) why.OutsideDynamic
 
-abbrev pub other_side : Side → Side
-other_side Buy = Sell
-other_side Sell = Buy
-
 -- whether an order meets the best level of the other side
 abbrev pub meets : Side → ℕ → Option Level → Bool
 meets s p None = false
@@ -117,12 +114,7 @@ meets Sell p (Some x) = nat_le p x.price
 abbrev pub apart : Book → Side → ℕ → Answer
 apart b s p = must (not (meets s p (best_of b (other_side s)))) why.Crosses
 
--- a board's fault as the day's refusal
-abbrev pub refusal_of : BoardFault → Refusal
-refusal_of fault.LevelFull = why.LevelFull
-refusal_of fault.NoPlace = why.NoPlace
-refusal_of fault.NothingThere = why.NothingThere
-
+-- what a board answers, with its fault as the day's refusal
 abbrev pub by_board : Result (Unit {0}) BoardFault → Answer
 by_board (Ok v) = Ok v
 by_board (Err f) = Err (refusal_of f)

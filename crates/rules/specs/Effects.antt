@@ -1,8 +1,8 @@
 -- What an accepted entry makes of each figure of the day and of the board.
 use Rattle.std.specs.Prelude.{ℕ, ◌-◌, ◌*◌, cond, ◌&&◌, ◌||◌, List, Some, None, Option, ◌==◌, nat_lt}
 use Rattle.entry.specs.declared.Side.{Side}
-use Rattle.entry.specs.declared.Side.TheVariants.{Buy, Sell}
 use Rattle.entry.specs.declared.Params.{Params}
+use Rattle.entry.specs.Sides.{with_side}
 use Rattle.entry.specs.declared.Entry.{Entry}
 use Rattle.entry.specs.declared.Entry.TheVariants.{Clock, Post, Leave, Trade, Parameters, Reference, Ruling}
 use Rattle.board.specs.declared.levels.Level.{Level}
@@ -17,9 +17,8 @@ use Rattle.plan.specs.Sessions.{session_of}
 use Rattle.plan.specs.Hours.{slot_at}
 use Rattle.rules.specs.declared.figures.OpenFigures.{OpenFigures}
 use Rattle.rules.specs.declared.figures.References.{References}
-use Rattle.rules.specs.declared.figures.Marks.{Marks}
 use Rattle.rules.specs.declared.figures.Forerunner.{Forerunner}
-use Rattle.rules.specs.declared.figures.Forerunners.{Forerunners}
+use Rattle.rules.specs.Figures.{Forerunners, Marks}
 use Rattle.rules.specs.Readings.{lp_of, quotation_at}
 use Rattle.rules.specs.Checks.{State, answer}
 
@@ -51,13 +50,17 @@ params_after old (Parameters t p) = p
 params_after old (Reference t s p) = old
 params_after old (Ruling t p) = old
 
--- a reference entered for a session, where the session has a code
+-- a reference entered for a session
+abbrev pub with_reference : References → Session → ℕ → References
+with_reference r Morning p = record { morning = Some p; main = r.main; evening = r.evening; weekend = r.weekend }
+with_reference r Main p = record { morning = r.morning; main = Some p; evening = r.evening; weekend = r.weekend }
+with_reference r Evening p = record { morning = r.morning; main = r.main; evening = Some p; weekend = r.weekend }
+with_reference r Weekend p = record { morning = r.morning; main = r.main; evening = r.evening; weekend = Some p }
+
+-- the same where a session was found for the code, and the references as they were where there is none
 abbrev pub entered : References → Option Session → ℕ → References
 entered r None p = r
-entered r (Some Morning) p = record { morning = Some p; main = r.main; evening = r.evening; weekend = r.weekend }
-entered r (Some Main) p = record { morning = r.morning; main = Some p; evening = r.evening; weekend = r.weekend }
-entered r (Some Evening) p = record { morning = r.morning; main = r.main; evening = Some p; weekend = r.weekend }
-entered r (Some Weekend) p = record { morning = r.morning; main = r.main; evening = r.evening; weekend = Some p }
+entered r (Some s) p = with_reference r s p
 
 abbrev pub references_after : References → Entry → References
 references_after r (Clock t) = r
@@ -90,8 +93,7 @@ marks_after hours d (Reference t s p) = d.marks
 marks_after hours d (Ruling t p) = d.marks
 
 abbrev pub with_forerunner : Forerunners → Side → Forerunner → Forerunners
-with_forerunner f Buy x = record { buy = Some x; sell = f.sell }
-with_forerunner f Sell x = record { buy = f.buy; sell = Some x }
+with_forerunner f s x = with_side f s (Some x)
 
 -- the forerunners after an order leaves, given its side's best level: the best level's last order makes it the forerunner
 abbrev pub ended : Forerunners → Side → ℕ → ℕ → Option Level → Forerunners
@@ -117,6 +119,18 @@ book_after b (Trade t m p n) = b
 book_after b (Parameters t p) = b
 book_after b (Reference t s p) = b
 book_after b (Ruling t p) = b
+
+-- the figures of a day with another time and quotation
+abbrev pub figures_at : OpenFigures → ℕ → ℕ → OpenFigures
+figures_at d t q = record {
+  time = t;
+  quotation = q;
+  params = d.params;
+  references = d.references;
+  marks = d.marks;
+  days = d.days;
+  forerunners = d.forerunners;
+}
 
 -- the day and the board after an accepted entry
 abbrev pub moved : List Window → State → Entry → State

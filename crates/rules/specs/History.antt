@@ -47,10 +47,6 @@ same Buy Sell = false
 same Sell Buy = false
 same Sell Sell = true
 
-abbrev pub other : Side → Side
-other Buy = Sell
-other Sell = Buy
-
 -- better is higher for buys and lower for sells
 abbrev pub Better : Side → ℕ → ℕ → Type 0
 Better Buy x y = y < x

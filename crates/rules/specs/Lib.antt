@@ -1,4 +1,5 @@
 -- What the contracts of a day cite: on the state side what each call answers and changes, on the history side what the entries say.
+pub mod Figures
 pub mod Readings
 pub mod Checks
 pub mod Effects

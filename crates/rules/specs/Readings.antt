@@ -2,8 +2,9 @@
 use Rattle.std.specs.Prelude.{ℕ, ◌-◌, Bool, cond, ◌&&◌, Some, None, Option, nat_le, nat_lt}
 use Rattle.entry.specs.declared.Side.{Side}
 use Rattle.entry.specs.declared.Side.TheVariants.{Buy, Sell}
+use Rattle.entry.specs.Sides.{better, of_side}
 use Rattle.board.specs.declared.levels.Level.{Level}
-use Rattle.board.specs.Book.{Book, best_of, better}
+use Rattle.board.specs.Book.{Book, best_of}
 use Rattle.plan.specs.declared.slots.Session.{Session}
 use Rattle.plan.specs.declared.slots.Session.TheVariants.{Morning, Main, Evening, Weekend}
 use Rattle.plan.specs.declared.slots.Slot.{Slot}
@@ -14,7 +15,7 @@ use Rattle.limits.specs.Rounded.{static_limits, dynamic_limits}
 use Rattle.rules.specs.declared.figures.OpenFigures.{OpenFigures}
 use Rattle.rules.specs.declared.figures.References.{References}
 use Rattle.rules.specs.declared.figures.Forerunner.{Forerunner}
-use Rattle.rules.specs.declared.figures.Forerunners.{Forerunners}
+use Rattle.rules.specs.Figures.{Forerunners}
 
 -- for how long a level must have stood to be ripe, where it has no credit
 abbrev pub full_time : ℕ
@@ -35,8 +36,7 @@ abbrev pub lp_of : OpenFigures → Session → ℕ
 lp_of d s = or_else (reference_of d.references s) d.params.sp
 
 abbrev pub forerunner_of : Forerunners → Side → Option Forerunner
-forerunner_of f Buy = f.buy
-forerunner_of f Sell = f.sell
+forerunner_of f s = of_side f s
 
 -- what a level is credited for its side's forerunner
 abbrev pub credit_of : Side → Level → Option Forerunner → ℕ

@@ -1,5 +1,11 @@
 // The figures that an open and a closed day hold, in plain numbers.
+ghost use Rattle.std.specs.Prelude.{◌≡◌};
+ghost use Rattle.rules.specs.Readings.{reference_of};
+ghost use Rattle.rules.specs.Effects.{figures_at, with_reference};
+
 use entry::Params;
+use entry::sides::Sides;
+use plan::Session;
 
 /// The level that most recently lost its last order while it was the best of its side.
 #[derive(Clone, Copy, PartialEq, Eq, Debug)]
@@ -12,14 +18,10 @@ pub struct Forerunner {
 }
 
 /// The forerunner of each side, or none.
-#[derive(Clone, Copy, PartialEq, Eq, Debug)]
-pub struct Forerunners {
-    pub buy: Option<Forerunner>,
-    pub sell: Option<Forerunner>,
-}
+pub type Forerunners = Sides<Option<Forerunner>>;
 
 /// The latest reference price entered for each session in this day, or none.
-#[derive(Clone, Copy, PartialEq, Eq, Debug)]
+#[derive(Clone, Copy, PartialEq, Eq, Debug, Default)]
 pub struct References {
     pub morning: Option<u32>,
     pub main: Option<u32>,
@@ -27,19 +29,45 @@ pub struct References {
     pub weekend: Option<u32>,
 }
 
-/// Whether a trade of this day went far above, and far below, the reference of the main session.
-#[derive(Clone, Copy, PartialEq, Eq, Debug)]
-pub struct Marks {
-    pub upward: bool,
-    pub downward: bool,
+impl References {
+    /// The latest reference price of a session, or none.
+    pub fn of(&self, session: Session) -> Option<u32>
+        ensures answer { result ≡ reference_of self.now session }
+    {
+        match session {
+            Session::Morning => self.morning,
+            Session::Main => self.main,
+            Session::Evening => self.evening,
+            Session::Weekend => self.weekend,
+        }
+    }
+
+    /// The references with one entered for a session.
+    pub fn with(mut self, session: Session, price: u32) -> References
+        ensures answer { result ≡ with_reference self session price }
+    {
+        match session {
+            Session::Morning => self.morning = Some(price),
+            Session::Main => self.main = Some(price),
+            Session::Evening => self.evening = Some(price),
+            Session::Weekend => self.weekend = Some(price),
+        }
+        self
+    }
 }
 
-/// For how many days, this one included, the bounds of the main session are tightened in each direction.
-#[derive(Clone, Copy, PartialEq, Eq, Debug)]
-pub struct DaysLeft {
-    pub upward: u8,
-    pub downward: u8,
+/// A value for each direction of prices.
+#[derive(Clone, Copy, PartialEq, Eq, Debug, Default, Drop)]
+pub struct Directions<T> {
+    pub upward: T,
+    pub downward: T,
 }
+
+/// Whether a trade of this day went far above, and far below, the reference of the main session.
+pub type Marks = Directions<bool>;
+
+/// For how many days, this one included, the bounds of the main session are tightened in each direction.
+pub type DaysLeft = Directions<u8>;
 
 /// What an open day holds.
 #[derive(Clone, Copy, PartialEq, Eq, Debug)]
@@ -54,14 +82,28 @@ pub struct OpenFigures {
     pub forerunners: Forerunners,
 }
 
+impl OpenFigures {
+    /// The figures at the time of an accepted entry, with the quotation that it leaves.
+    pub fn at(self, time: u32, quotation: u32) -> OpenFigures
+        ensures answer { result ≡ figures_at self time quotation }
+    {
+        OpenFigures {
+            time,
+            quotation,
+            ..self
+        }
+    }
+}
+
 /// What a closed day holds: the last quotation, or none before the first day, and the days left.
-#[derive(Clone, Copy, PartialEq, Eq, Debug)]
+#[derive(Clone, Copy, PartialEq, Eq, Debug, Default)]
 pub struct ClosedFigures {
     pub quotation: Option<u32>,
     pub days: DaysLeft,
 }
 
 /// One line of a trail: 0 and the quotation after an accepted entry, or a refusal's number and 0.
+// A line has plain figures and no `Result`: docs/ENTRIES.md, Run and trail, fixes it.
 #[derive(Clone, Copy, PartialEq, Eq, Debug)]
 pub struct TrailLine {
     pub answer: u8,

@@ -1,9 +1,10 @@
 -- What is printed: words and decimal figures, with single blanks between.
-use Rattle.std.specs.Prelude.{ℕ, List, [], ◌∷◌, ◌++◌, Some, None, codes, decimal}
+use Rattle.std.specs.Prelude.{ℕ, List, [], ◌∷◌, ◌++◌, Some, None, Option, codes, decimal}
 use Rattle.entry.specs.declared.Entry.{Entry}
 use Rattle.entry.specs.declared.Params.{Params}
+use Rattle.entry.specs.declared.refusals.Place.{Place}
 use Rattle.entry.specs.declared.refusals.Refusal.{Refusal}
-use Rattle.entry.specs.Refusals.{number, place, Place}
+use Rattle.entry.specs.Refusals.{number, place}
 use Rattle.script.specs.Spelling.{Bytes, Part, name, figure, code, entry_parts, params_parts}
 pub use Rattle.script.specs.Spelling.{side_text}
 
@@ -25,9 +26,9 @@ abbrev pub entry_text : Entry → Bytes
 entry_text entry = spaced (entry_parts entry)
 
 -- a refusal by its number, and after its place if it is a fault in a feed
-abbrev pub told_text : ℕ → Place → Bytes
+abbrev pub told_text : ℕ → Option Place → Bytes
 told_text number None = codes "refused " ++ decimal number
-told_text number (Some at) = codes "record " ++ (decimal at.0 ++ (codes " bit " ++ (decimal at.1 ++ (codes " refused " ++ decimal number))))
+told_text number (Some at) = codes "record " ++ (decimal at.number ++ (codes " bit " ++ (decimal at.bit ++ (codes " refused " ++ decimal number))))
 
 abbrev pub refusal_text : Refusal → Bytes
 refusal_text refusal = told_text (number refusal) (place refusal)

@@ -5,7 +5,7 @@ ghost use Rattle.script.specs.Faults.{fault_text};
 use std::fmt;
 
 /// Why a line cannot be read.
-#[derive(Clone, Copy)]
+#[derive(Clone, Copy, PartialEq, Eq, Debug)]
 pub enum LineFault<'a> {
     /// The first word is no command.
     UnknownCommand {

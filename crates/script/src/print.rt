@@ -1,13 +1,16 @@
 // The plain form of entries, commands and refusals: words and decimal figures with single blanks between.
 ghost use Rattle.std.specs.Prelude.{Some};
-ghost use Rattle.script.specs.Commands.{bounding_text, limit_text, command_text};
+ghost use Rattle.script.specs.Commands.{bounding_text, limit_text, plan_text, shape_text, board_text, day_text, command_text};
 ghost use Rattle.script.specs.Print.{entry_text, side_text, params_text, refusal_text};
 
-use crate::command::{Bounding, Command, LimitKind};
-use entry::refusals::Refusal;
+use crate::command::{
+    Announcement, BoardCommand, BoardShape, Bounding, Command, DayCommand, LimitKind, PlanCommand,
+};
+use entry::refusals::{Place, Refusal};
 use entry::{Entry, Params, Side};
 use std::fmt;
 
+// The types that are printed so are the entries' crate's, and a Display must stand with the type or with a wrapper like this.
 /// A value to be printed in its plain form.
 #[derive(Clone, Copy)]
 pub struct Plain<T>(pub T);
@@ -70,20 +73,21 @@ impl fmt::Display for Plain<Refusal> {
     ghost output = { λ plain. Some (refusal_text plain.0) };
 
     fn fmt<W: fmt::Write>(&self, f: &mut fmt::Formatter<W>) -> fmt::Result {
-        let refusal = self.0;
-        let number = refusal.number();
-        match refusal.place() {
-            Some((record, bit)) => write!(f, "record {record} bit {bit} refused {number}"),
-            None => write!(f, "refused {number}"),
+        let refused = self.0.number();
+        match self.0.place() {
+            Some(Place { number, bit }) => {
+                write!(f, "record {number} bit {bit} refused {refused}")
+            }
+            None => write!(f, "refused {refused}"),
         }
     }
 }
 
-impl fmt::Display for Bounding {
-    ghost output = { λ bounding. Some (bounding_text bounding) };
+impl fmt::Display for Plain<Bounding> {
+    ghost output = { λ plain. Some (bounding_text plain.0) };
 
     fn fmt<W: fmt::Write>(&self, f: &mut fmt::Formatter<W>) -> fmt::Result {
-        match *self {
+        match self.0 {
             Bounding::Free => write!(f, "free"),
             Bounding::Bounded => write!(f, "bounded"),
         }
@@ -101,32 +105,76 @@ impl fmt::Display for LimitKind {
     }
 }
 
+impl fmt::Display for PlanCommand {
+    ghost output = { λ command. Some (plan_text command) };
+
+    fn fmt<W: fmt::Write>(&self, f: &mut fmt::Formatter<W>) -> fmt::Result {
+        match *self {
+            PlanCommand::Fixed { days, group } => write!(f, "plan fixed {days} {group}"),
+            PlanCommand::Announced => write!(f, "plan announced"),
+            PlanCommand::Window(
+                Announcement {
+                    start,
+                    end,
+                    session,
+                    bounding,
+                    k,
+                },
+            ) => write!(f, "window {start} {end} {session} {} {k}", Plain(bounding)),
+            PlanCommand::Session { time } => write!(f, "session {time}"),
+        }
+    }
+}
+
+impl fmt::Display for BoardShape {
+    ghost output = { λ shape. Some (shape_text shape) };
+
+    fn fmt<W: fmt::Write>(&self, f: &mut fmt::Formatter<W>) -> fmt::Result {
+        match *self {
+            BoardShape::Ladder { count } => write!(f, "board ladder {count}"),
+            BoardShape::Grid { start } => write!(f, "board grid {start}"),
+        }
+    }
+}
+
+impl fmt::Display for BoardCommand {
+    ghost output = { λ command. Some (board_text command) };
+
+    fn fmt<W: fmt::Write>(&self, f: &mut fmt::Formatter<W>) -> fmt::Result {
+        match *self {
+            BoardCommand::Add { side, price, time } => {
+                write!(f, "add {} {price} {time}", Plain(side))
+            }
+            BoardCommand::Take { side, price } => write!(f, "take {} {price}", Plain(side)),
+            BoardCommand::Levels { side } => write!(f, "levels {}", Plain(side)),
+        }
+    }
+}
+
+impl fmt::Display for DayCommand<'_> {
+    ghost output = { λ command. Some (day_text command) };
+
+    fn fmt<W: fmt::Write>(&self, f: &mut fmt::Formatter<W>) -> fmt::Result {
+        match *self {
+            DayCommand::Listed => write!(f, "listed"),
+            DayCommand::Open { time, params } => write!(f, "open {time} {}", Plain(params)),
+            DayCommand::Limits { which, time } => write!(f, "limits {which} {time}"),
+            DayCommand::Feed { file } => write!(f, "feed {file}"),
+            DayCommand::Close => write!(f, "close"),
+        }
+    }
+}
+
 impl fmt::Display for Command<'_> {
     ghost output = { λ command. Some (command_text command) };
 
     fn fmt<W: fmt::Write>(&self, f: &mut fmt::Formatter<W>) -> fmt::Result {
         match *self {
-            Command::FixedPlan { days, group } => write!(f, "plan fixed {days} {group}"),
-            Command::AnnouncedPlan => write!(f, "plan announced"),
-            Command::Window {
-                start,
-                end,
-                session,
-                bounding,
-                k,
-            } => write!(f, "window {start} {end} {session} {bounding} {k}"),
-            Command::Session { time } => write!(f, "session {time}"),
-            Command::Ladder { count } => write!(f, "board ladder {count}"),
-            Command::Grid { start } => write!(f, "board grid {start}"),
-            Command::Add { side, price, time } => write!(f, "add {} {price} {time}", Plain(side)),
-            Command::Take { side, price } => write!(f, "take {} {price}", Plain(side)),
-            Command::Listed => write!(f, "listed"),
-            Command::Open { time, params } => write!(f, "open {time} {}", Plain(params)),
             Command::Entry(entry) => write!(f, "{}", Plain(entry)),
-            Command::Limits { which, time } => write!(f, "limits {which} {time}"),
-            Command::Levels { side } => write!(f, "levels {}", Plain(side)),
-            Command::Feed { file } => write!(f, "feed {file}"),
-            Command::Close => write!(f, "close"),
+            Command::Plan(plan) => write!(f, "{plan}"),
+            Command::NewBoard(shape) => write!(f, "{shape}"),
+            Command::Board(board) => write!(f, "{board}"),
+            Command::Day(day) => write!(f, "{day}"),
         }
     }
 }

@@ -1,4 +1,3 @@
--- What is read of names and of printed entries.
-pub mod Names
+-- What is read of printed entries.
 pub mod Solid
 pub mod Printed

@@ -1,5 +1,5 @@
 -- A printed entry is read as the same entry.
-use Rattle.std.proofs.Common.{◌≡◌, ℕ, ◌-◌, ◌^◌, ◌<◌, ◌≤◌, true, cond, List, [], ◌∷◌, map, length, Some, None, Ok, Err, decimal, Option, Result, refl, ap, ◌∙◌, arith, le-leb}
+use Rattle.std.proofs.Common.{◌≡◌, ℕ, ◌-◌, ◌^◌, ◌<◌, ◌≤◌, true, cond, List, [], ◌∷◌, map, length, Some, None, Ok, Err, decimal, Option, Result, refl, ap, ◌∙◌, arith, rules, le-leb}
 use Rattle.std.proofs.lemmas.Fmt.{digits_decimal, digits_value-decimal, decimal_nonempty}
 use Rattle.entry.specs.declared.Entry.{Entry}
 use Rattle.entry.specs.declared.Entry.TheVariants as made
@@ -20,8 +20,7 @@ use Rattle.script_parse.proofs.Solid.{is_word, solid, digits_solid, AllWords, un
 number_decimal : (n : ℕ) → n < 2 ^ 32 → number (decimal n) ≡ Some n
 number_decimal n h =
     let wide : n < 2 ^ 64 = omega arith in
-    let same = digits_value-decimal own n wide in
-    number_of (decimal n) (digits_decimal own n wide, decimal_nonempty n wide, omega (arith, same)) ∙ ap (λ v. Some v) same
+    grind (arith, number_of, digits_value-decimal own n wide, digits_decimal own n wide, decimal_nonempty n wide)
 
 figure_to_decimal : (most n : ℕ) (ws : List Bytes) → n < 2 ^ 32 → n ≤ most → figure_to most (decimal n ∷ ws) ≡ Some (n, ws)
 figure_to_decimal most n ws h k =
@@ -64,47 +63,22 @@ parts_words (figure n ∷ parts) fits named = (decimal_word n fits.0, parts_word
 parts_words (code n ∷ parts) fits named = (decimal_word n (omega (arith, fits.0)), parts_words parts fits.1 named)
 
 entry_named : (e : Entry) → Named (entry_parts e)
-entry_named (made.Clock time) = (refl, tt)
-entry_named (made.Post time side mode price) = (refl, (side_is_word side, tt))
-entry_named (made.Leave time side price) = (refl, (side_is_word side, tt))
-entry_named (made.Trade time mode price quantity) = (refl, tt)
-entry_named (made.Parameters time params) = (refl, tt)
-entry_named (made.Reference time session price) = (refl, tt)
-entry_named (made.Ruling time price) = (refl, tt)
+entry_named (made.Clock time) = search rules
+entry_named (made.Post time side mode price) = search (rules, side_is_word)
+entry_named (made.Leave time side price) = search (rules, side_is_word)
+entry_named (made.Trade time mode price quantity) = search rules
+entry_named (made.Parameters time params) = search rules
+entry_named (made.Reference time session price) = search rules
+entry_named (made.Ruling time price) = search rules
 
 words_read : (e : Entry) → Fits e → entry_of_words (map part_text (entry_parts e)) ≡ Some e
-words_read (made.Clock time) h = let t : time < 2 ^ 32 = h.1.0 in simp figure_decimal
-words_read (made.Post time side mode price) h =
-    let t : time < 2 ^ 32 = h.1.0 in
-    let m : mode < 2 ^ 8 = h.1.1.1.0 in
-    let p : price < 2 ^ 32 = h.1.1.1.1.0 in
-    simp (figure_decimal, side-word, code_decimal)
-words_read (made.Leave time side price) h =
-    let t : time < 2 ^ 32 = h.1.0 in
-    let p : price < 2 ^ 32 = h.1.1.1.0 in
-    simp (figure_decimal, side-word)
-words_read (made.Trade time mode price quantity) h =
-    let t : time < 2 ^ 32 = h.1.0 in
-    let m : mode < 2 ^ 8 = h.1.1.0 in
-    let p : price < 2 ^ 32 = h.1.1.1.0 in
-    let q : quantity < 2 ^ 32 = h.1.1.1.1.0 in
-    simp (figure_decimal, code_decimal)
-words_read (made.Parameters time params) h =
-    let t : time < 2 ^ 32 = h.1.0 in
-    let sp : params.sp < 2 ^ 32 = h.1.1.0 in
-    let l : params.l < 2 ^ 32 = h.1.1.1.0 in
-    let ur : params.ur < 2 ^ 32 = h.1.1.1.1.0 in
-    let lr : params.lr < 2 ^ 32 = h.1.1.1.1.1.0 in
-    simp figure_decimal
-words_read (made.Reference time session price) h =
-    let t : time < 2 ^ 32 = h.1.0 in
-    let s : session < 2 ^ 8 = h.1.1.0 in
-    let p : price < 2 ^ 32 = h.1.1.1.0 in
-    simp (figure_decimal, code_decimal)
-words_read (made.Ruling time price) h =
-    let t : time < 2 ^ 32 = h.1.0 in
-    let p : price < 2 ^ 32 = h.1.1.0 in
-    simp figure_decimal
+words_read (made.Clock time) h = grind (arith, figure_decimal)
+words_read (made.Post time side mode price) h = grind (arith, figure_decimal, side-word, code_decimal)
+words_read (made.Leave time side price) h = grind (arith, figure_decimal, side-word)
+words_read (made.Trade time mode price quantity) h = grind (arith, figure_decimal, code_decimal)
+words_read (made.Parameters time params) h = grind (arith, figure_decimal)
+words_read (made.Reference time session price) h = grind (arith, figure_decimal, code_decimal)
+words_read (made.Ruling time price) h = grind (arith, figure_decimal)
 
 pub entry_read : (e : Entry) → Fits e → entry_of (entry_text e) ≡ Some e
 entry_read e h =
@@ -114,20 +88,10 @@ entry_read e h =
 -- a command that is an entry is that entry's command
 entry_command : (command : Command) (e : Entry) → entry_in command ≡ Some e → command ≡ asks.Entry e
 entry_command (asks.Entry entry) e h = cc
-entry_command (asks.FixedPlan days group) e h = cc
-entry_command asks.AnnouncedPlan e h = cc
-entry_command (asks.Window start end session bounding k) e h = cc
-entry_command (asks.Session time) e h = cc
-entry_command (asks.Ladder count) e h = cc
-entry_command (asks.Grid start) e h = cc
-entry_command (asks.Add side price time) e h = cc
-entry_command (asks.Take side price) e h = cc
-entry_command asks.Listed e h = cc
-entry_command (asks.Open time params) e h = cc
-entry_command (asks.Limits which time) e h = cc
-entry_command (asks.Levels side) e h = cc
-entry_command (asks.Feed file) e h = cc
-entry_command asks.Close e h = cc
+entry_command (asks.Plan command) e h = cc
+entry_command (asks.NewBoard asked) e h = cc
+entry_command (asks.Board command) e h = cc
+entry_command (asks.Day command) e h = cc
 
 entry_answer : {E : Type 0} (r : Result (Option Command) E) (e : Entry) → entry_parsed r ≡ Some e → r ≡ Ok (Some (asks.Entry e))
 entry_answer (Ok None) e h = cc

@@ -1,11 +1,11 @@
 -- Words with single blanks between are read as the same words.
-use Rattle.std.proofs.Common.{◌≡◌, ℕ, Bool, true, false, cond, not, ◌&&◌, ◌||◌, eqb, List, [], ◌∷◌, ◌++◌, map, sym, refl, ap, ◌∙◌, append-nil, arith}
+use Rattle.std.proofs.Common.{◌≡◌, ℕ, Bool, true, false, not, ◌&&◌, ◌||◌, eqb, List, [], ◌∷◌, ◌++◌, map, refl, append-nil, arith}
 use Rattle.std.proofs.lemmas.Bool.Decides.{nat_tests}
 use Rattle.std.specs.Char.{is_ascii_digit}
 use Rattle.std.specs.Str.{all_ascii_digits}
 use Rattle.script.specs.Spelling.{Bytes, Part}
 use Rattle.script.specs.Print.{part_text, spaced}
-use Rattle.script_words.specs.Words.{is_blank, uncommented, goes_on, onto, words_of}
+use Rattle.script_words.specs.Words.{is_blank, uncommented, goes_on, words_of}
 
 -- neither a blank nor the start of a comment
 abbrev pub is_solid : ℕ → Bool
@@ -20,14 +20,6 @@ abbrev pub is_word : Bytes → Bool
 is_word [] = false
 is_word (b ∷ bs) = solid (b ∷ bs)
 
-and_left : (a b : Bool) → (a && b) ≡ true → a ≡ true
-and_left true b e = refl
-and_left false b e = e
-
-and_right : (a b : Bool) → (a && b) ≡ true → b ≡ true
-and_right true b e = e
-and_right false b e = absurd (let z : ◌≡◌ {A = ℕ} 0 1 = cc in omega arith)
-
 solid_not_blank : (b : ℕ) → is_solid b ≡ true → is_blank b ≡ false
 solid_not_blank b e = grind (arith, nat_tests)
 
@@ -40,26 +32,18 @@ digit_solid b e = grind (arith, nat_tests)
 pub digits_solid : (bs : Bytes) → all_ascii_digits bs ≡ true → solid bs ≡ true
 digits_solid [] e = refl
 digits_solid (b ∷ bs) e =
-    ap (λ t. t && solid bs) (digit_solid b (and_left _ _ e)) ∙ digits_solid bs (and_right _ _ e)
+    grind (arith, nat_tests, digit_solid, digits_solid bs)
 
 uncommented-solid : (w rest : Bytes) → solid w ≡ true → uncommented (w ++ rest) ≡ w ++ uncommented rest
 uncommented-solid [] rest e = refl
-uncommented-solid (b ∷ bs) rest e =
-    ap (λ t. cond t [] (b ∷ uncommented (bs ++ rest))) (solid_not_comment b (and_left _ _ e))
-    ∙ ap {B = Bytes} (λ (l : Bytes). b ∷ l) (uncommented-solid bs rest (and_right _ _ e))
+uncommented-solid (b ∷ bs) rest e = grind (arith, nat_tests, solid_not_comment, uncommented-solid bs rest)
 
 words_solid : (b : ℕ) (bs rest : Bytes) → solid (b ∷ bs) ≡ true → goes_on rest ≡ false → words_of (b ∷ (bs ++ rest)) ≡ (b ∷ bs) ∷ words_of rest
-words_solid b [] rest e ends =
-    ap (λ t. cond t (words_of rest) (cond (goes_on rest) (onto b (words_of rest)) ((b ∷ []) ∷ words_of rest))) (solid_not_blank b (and_left _ _ e))
-    ∙ ap (λ t. cond t (onto b (words_of rest)) ((b ∷ []) ∷ words_of rest)) ends
-words_solid b (x ∷ xs) rest e ends =
-    let more = and_right (is_solid b) _ e in
-    ap (λ t. cond t (words_of (x ∷ (xs ++ rest))) (cond (goes_on (x ∷ (xs ++ rest))) (onto b (words_of (x ∷ (xs ++ rest)))) ((b ∷ []) ∷ words_of (x ∷ (xs ++ rest))))) (solid_not_blank b (and_left _ _ e))
-    ∙ ap (λ t. cond (cond t false true) (onto b (words_of (x ∷ (xs ++ rest)))) ((b ∷ []) ∷ words_of (x ∷ (xs ++ rest)))) (solid_not_blank x (and_left _ _ more))
-    ∙ ap (onto b) (words_solid x xs rest more ends)
+words_solid b [] rest e ends = grind (arith, nat_tests, solid_not_blank)
+words_solid b (x ∷ xs) rest e ends = grind (arith, nat_tests, solid_not_blank, words_solid x xs rest)
 
 words_word : (w rest : Bytes) → is_word w ≡ true → goes_on rest ≡ false → words_of (w ++ rest) ≡ w ∷ words_of rest
-words_word [] rest e ends = absurd (let z : ◌≡◌ {A = ℕ} 0 1 = cc in omega arith)
+words_word [] rest e ends = grind (arith, nat_tests)
 words_word (b ∷ bs) rest e ends = words_solid b bs rest e ends
 
 word-solid : (w : Bytes) → is_word w ≡ true → solid w ≡ true
@@ -73,15 +57,10 @@ AllWords (part ∷ parts) = (is_word (part_text part) ≡ true) × AllWords part
 
 pub uncommented-spaced : (parts : List Part) → AllWords parts → uncommented (spaced parts) ≡ spaced parts
 uncommented-spaced [] all = refl
-uncommented-spaced (part ∷ []) all =
-    ap uncommented (sym (append-nil (part_text part))) ∙ uncommented-solid (part_text part) [] (word-solid (part_text part) all.0) ∙ append-nil (part_text part)
-uncommented-spaced (part ∷ next ∷ parts) all =
-    uncommented-solid (part_text part) (32 ∷ spaced (next ∷ parts)) (word-solid (part_text part) all.0)
-    ∙ ap (λ (l : Bytes). part_text part ++ (32 ∷ l)) (uncommented-spaced (next ∷ parts) all.1)
+uncommented-spaced (part ∷ []) all = grind (arith, append-nil, uncommented-solid (part_text part) [], word-solid)
+uncommented-spaced (part ∷ next ∷ parts) all = grind (arith, uncommented-solid, word-solid, uncommented-spaced (next ∷ parts) all.1)
 
 pub words_spaced : (parts : List Part) → AllWords parts → words_of (spaced parts) ≡ map part_text parts
 words_spaced [] all = refl
-words_spaced (part ∷ []) all = ap words_of (sym (append-nil (part_text part))) ∙ words_word (part_text part) [] all.0 refl
-words_spaced (part ∷ next ∷ parts) all =
-    words_word (part_text part) (32 ∷ spaced (next ∷ parts)) all.0 refl
-    ∙ ap {B = List Bytes} (λ (l : List Bytes). part_text part ∷ l) (words_spaced (next ∷ parts) all.1)
+words_spaced (part ∷ []) all = grind (arith, append-nil, words_word (part_text part) [])
+words_spaced (part ∷ next ∷ parts) all = grind (arith, words_word, words_spaced (next ∷ parts) all.1)

@@ -3,13 +3,13 @@ use Rattle.std.specs.Prelude.{ℕ, cond, List, [], ◌∷◌, Some, None, Ok, Er
 use Rattle.std.specs.Str.{bytes_eq}
 use Rattle.entry.specs.declared.Entry.{Entry}
 use Rattle.entry.specs.declared.Entry.TheVariants as made
+use Rattle.entry.specs.declared.kinds.Kind.{Kind}
+use Rattle.entry.specs.declared.kinds.Kind.TheVariants as kind
 use Rattle.script.specs.declared.command.Command.{Command}
 use Rattle.script.specs.Commands.{entry_in}
 use Rattle.script.specs.Spelling.{Bytes}
 use Rattle.script_words.specs.Reading.{Read, before, and_then, figure, code, side, params}
 use Rattle.script_words.specs.Words.{uncommented, words_of}
-use Rattle.script_parse.specs.declared.entries.Kind.{Kind}
-use Rattle.script_parse.specs.declared.entries.Kind.TheVariants as kind
 
 -- the kind of entry that a name begins
 abbrev pub kind_named : Bytes → Option Kind

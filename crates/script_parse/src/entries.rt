@@ -5,21 +5,11 @@ ghost use Rattle.script_words.specs.Reading.{answered};
 ghost use Rattle.script_parse.specs.Entries.{kind_named, entry_after};
 
 use entry::Entry;
+use entry::kinds::Kind;
 use script::faults::LineFault;
 use script_words::words::Words;
 
-/// The kinds of entry.
-#[derive(Clone, Copy)]
-pub enum Kind {
-    Clock,
-    Post,
-    Leave,
-    Trade,
-    Parameters,
-    Reference,
-    Ruling,
-}
-
+// A function and no `FromStr`, which would stand in the entries' crate, where no words of scripts are known.
 /// The kind of entry that a command begins, if it begins one.
 pub fn kind_named(name: &str) -> Option<Kind>
     ensures answer { result ≡ kind_named name.now }

@@ -1,74 +1,82 @@
 -- A text cut after its leading blanks, after its first word, and before its comment.
-use Rattle.std.proofs.Common.{◌≡◌, ℕ, zero, suc, ◌<◌, Bool, true, false, cond, eqb, [], ◌∷◌, ◌++◌, length, get_or, take, drop, IsUtf8, refl, ap, ◌∙◌, suc-le-suc, le_of_suc-le-suc, not-suc-le-zero, add-one, arith}
+use Rattle.std.proofs.Common.{◌≡◌, ℕ, zero, suc, ◌<◌, ◌≤◌, Bool, true, false, not, cond, eqb, List, [], ◌∷◌, ◌++◌, length, get_or, take, drop, Some, None, Option, unwrap_or, IsUtf8, sym, refl, ap, ◌∙◌, suc-le-suc, not-suc-le-zero, add-one, arith}
+use Rattle.std.proofs.lemmas.Grind.{common_steps}
+use Rattle.std.proofs.lemmas.List.Quantifiers.{position-Some}
+use Rattle.std.proofs.lemmas.List.Sums.{fails_before_first, passes_at_first, prefix_len-le-length}
 use Rattle.std.proofs.lemmas.Str.{IsCharBoundary-start, IsCharBoundary-after_ascii}
 use Rattle.std.proofs.lemmas.Bool.Decides.{nat_tests}
+use Rattle.std.specs.List.{position, position_or_len}
 use Rattle.std.specs.Str.{IsCharBoundary}
 use Rattle.script.specs.Spelling.{Bytes}
-use Rattle.script_words.specs.Words.{is_blank, uncommented, goes_on, onto, words_of, first, Run}
+use Rattle.script_words.specs.Words.{is_blank, uncommented, onto, words_of}
+
+abbrev pub not_blank : ℕ → Bool
+not_blank b = not (is_blank b)
 
 blank_ascii : (b : ℕ) → is_blank b ≡ true → b < 128
 blank_ascii b e = grind (arith, nat_tests)
 
--- a byte that is not of one kind is of the other
-pub other : (b : Bool) → (b ≡ false → ⊥) → b ≡ true
-other true h = refl
-other false h = absurd (h refl)
+yes_of_not : (b : Bool) → not b ≡ false → b ≡ true
+yes_of_not b e = grind (arith, nat_tests)
 
-pub other_not : (b : Bool) → (b ≡ true → ⊥) → b ≡ false
-other_not true h = absurd (h refl)
-other_not false h = refl
+no_of_not : (b : Bool) → not b ≡ true → b ≡ false
+no_of_not b e = grind (arith, nat_tests)
 
-pub boundary_after_blanks : (bs : Bytes) (n : ℕ) → IsUtf8 bs → Run bs true n → IsCharBoundary bs n
-boundary_after_blanks bs zero u run = IsCharBoundary-start bs u
-boundary_after_blanks bs (suc n) u run =
-    rw (← add-one) (IsCharBoundary-after_ascii bs n u run.within (blank_ascii _ (run.all n (omega arith))))
+pub place_or_length : (bs : Bytes) (r : Option ℕ) → r ≡ position is_blank bs → unwrap_or r (length bs) ≡ position_or_len is_blank bs
+place_or_length bs r e = let within = prefix_len-le-length not_blank bs in grind (arith, nat_tests)
 
-pub boundary_after-word : (bs : Bytes) (n : ℕ) → Run bs false n → IsCharBoundary bs n
-boundary_after-word bs n run =
-    (run.within, λ inside high. absurd (let low : get_or bs n 0 < 128 = blank_ascii _ (other _ (run.stops inside)) in omega arith))
+-- a cut falls between characters where a word starts, and where it ends
+pub boundary_start : (bs : Bytes) (n : ℕ) → IsUtf8 bs → position not_blank bs ≡ Some n → IsCharBoundary bs n
+boundary_start bs zero u e = IsCharBoundary-start bs u
+boundary_start bs (suc n) u e =
+    let at = position-Some not_blank bs (suc n) 0 e in
+    rw (← add-one) (IsCharBoundary-after_ascii bs n u (omega arith) (blank_ascii _ (yes_of_not _ (at.2 n (omega arith)))))
+
+pub boundary_end : (bs : Bytes) → IsCharBoundary bs (position_or_len is_blank bs)
+boundary_end bs = (prefix_len-le-length not_blank bs, λ inside high. absurd (let low : get_or bs (position_or_len is_blank bs) 0 < 128 = blank_ascii _ (passes_at_first is_blank bs 0 inside) in omega arith))
 
 -- leading blanks hold no word
-pub words_after_blanks : (bs : Bytes) (n : ℕ) → ((k : ℕ) → k < n → is_blank (get_or bs k 0) ≡ true) → words_of bs ≡ words_of (drop n bs)
+words_after_blanks : (bs : Bytes) (n : ℕ) → ((k : ℕ) → k < n → is_blank (get_or bs k 0) ≡ true) → words_of bs ≡ words_of (drop n bs)
 words_after_blanks bs zero all = refl
 words_after_blanks [] (suc n) all = refl
 words_after_blanks (b ∷ bs) (suc n) all =
-    ap (λ t. cond t (words_of bs) (cond (goes_on bs) (onto b (words_of bs)) ((b ∷ []) ∷ words_of bs))) (all 0 (omega arith))
-    ∙ words_after_blanks bs n (λ k h. all (suc k) (suc-le-suc h))
+    let here : is_blank b ≡ true = all 0 (omega arith) in
+    grind (arith, words_after_blanks bs n (λ k h. all (suc k) (suc-le-suc h)))
 
-run_tail : (b : ℕ) (bs : Bytes) (blank : Bool) (n : ℕ) → Run (b ∷ bs) blank (suc n) → Run bs blank n
-run_tail b bs blank n run = record {
-  within = le_of_suc-le-suc run.within;
-  all = λ k h. run.all (suc k) (suc-le-suc h);
-  stops = λ h. run.stops (suc-le-suc h);
-}
+onto_word : {ws : List Bytes} {w : Bytes} {rest : List Bytes} (b : ℕ) (apart blank : Bool) → apart ≡ false → blank ≡ false → ws ≡ w ∷ rest → cond apart ws (cond (cond blank false true) (onto b ws) ((b ∷ []) ∷ ws)) ≡ (b ∷ w) ∷ rest
+onto_word b false false e h is = ap (onto b) is
+onto_word b true blank e h is = cc
+onto_word b false true e h is = cc
 
-words_in : (b : ℕ) (bs : Bytes) → is_blank b ≡ false → words_of (b ∷ bs) ≡ cond (goes_on bs) (onto b (words_of bs)) ((b ∷ []) ∷ words_of bs)
-words_in b bs e = ap (λ t. cond t (words_of bs) (cond (goes_on bs) (onto b (words_of bs)) ((b ∷ []) ∷ words_of bs))) e
+longer : (b : ℕ) (bs : Bytes) → is_blank b ≡ false → position_or_len is_blank (b ∷ bs) ≡ suc (position_or_len is_blank bs)
+longer b bs e = grind (arith, add-one)
 
--- the longest run without blanks, after a byte that is none, is the rest of the first word
-words_first-after : (b : ℕ) (bs : Bytes) (n : ℕ) → is_blank b ≡ false → Run bs false n → words_of (b ∷ bs) ≡ (b ∷ take n bs) ∷ words_of (drop n bs)
-words_first-after b [] zero e run = words_in b [] e
-words_first-after b [] (suc n) e run = absurd (not-suc-le-zero run.within)
-words_first-after b (x ∷ xs) zero e run =
-    words_in b (x ∷ xs) e
-    ∙ ap (λ t. cond (cond t false true) (onto b (words_of (x ∷ xs))) ((b ∷ []) ∷ words_of (x ∷ xs))) (other _ (run.stops (omega arith)))
-words_first-after b (x ∷ xs) (suc n) e run =
-    words_in b (x ∷ xs) e
-    ∙ ap (λ t. cond (cond t false true) (onto b (words_of (x ∷ xs))) ((b ∷ []) ∷ words_of (x ∷ xs))) (run.all 0 (omega arith))
-    ∙ ap (onto b) (words_first-after x xs n (run.all 0 (omega arith)) (run_tail x xs false n run))
+-- a byte that is not blank and what stands before the next blank are the first word
+words_first : (b : ℕ) (bs : Bytes) → is_blank b ≡ false → words_of (b ∷ bs) ≡ (b ∷ take (position_or_len is_blank bs) bs) ∷ words_of (drop (position_or_len is_blank bs) bs)
+words_first b [] e = grind arith
+words_first b (x ∷ xs) e = by_kind (is_blank x) refl (words_first x xs)
+  where
+    by_kind : (t : Bool) → is_blank x ≡ t → (is_blank x ≡ false → words_of (x ∷ xs) ≡ (x ∷ take (position_or_len is_blank xs) xs) ∷ words_of (drop (position_or_len is_blank xs) xs)) → words_of (b ∷ (x ∷ xs)) ≡ (b ∷ take (position_or_len is_blank (x ∷ xs)) (x ∷ xs)) ∷ words_of (drop (position_or_len is_blank (x ∷ xs)) (x ∷ xs))
+    by_kind true h rest = grind arith
+    by_kind false h rest =
+        onto_word b (is_blank b) (is_blank x) e h (rest h) ∙ sym (ap (λ n. (b ∷ take n (x ∷ xs)) ∷ words_of (drop n (x ∷ xs))) (longer x xs h))
 
--- the longest run without blanks at the front is the first word
-pub words_first : (bs : Bytes) (n : ℕ) → (0 < length bs → is_blank (get_or bs 0 0) ≡ false) → Run bs false n → words_of bs ≡ first (take n bs) (words_of (drop n bs))
-words_first [] zero starts run = refl
-words_first [] (suc n) starts run = refl
-words_first (b ∷ bs) zero starts run = absurd (run.stops (omega arith) (starts (omega arith)))
-words_first (b ∷ bs) (suc n) starts run = words_first-after b bs n (starts (omega arith)) (run_tail b bs false n run)
+at_start : (bs : Bytes) → 0 < length bs → is_blank (get_or bs 0 0) ≡ false → words_of bs ≡ take (position_or_len is_blank bs) bs ∷ words_of (drop (position_or_len is_blank bs) bs)
+at_start [] some e = absurd (not-suc-le-zero some)
+at_start (b ∷ bs) some e = words_first b bs e ∙ sym (ap (λ n. take n (b ∷ bs) ∷ words_of (drop n (b ∷ bs))) (longer b bs e))
 
--- after the blanks at the front comes no blank
-pub starts_after_blanks : (bs : Bytes) (n : ℕ) → Run bs true n → 0 < length (drop n bs) → is_blank (get_or (drop n bs) 0 0) ≡ false
-starts_after_blanks bs zero run h = other_not _ (run.stops h)
-starts_after_blanks [] (suc n) run h = absurd (not-suc-le-zero h)
-starts_after_blanks (b ∷ bs) (suc n) run h = starts_after_blanks bs n (run_tail b bs true n run) h
+pub first_cut : (text word : Bytes) (n : ℕ) → position not_blank text ≡ Some n → word ≡ drop n text → words_of text ≡ take (position_or_len is_blank word) word ∷ words_of (drop (position_or_len is_blank word) word)
+first_cut text word n e is =
+    let at = position-Some not_blank text n 0 e in
+    let some : 0 < length word = grind (arith, common_steps) in
+    let here : get_or word 0 0 ≡ get_or text n 0 = grind (arith, common_steps) in
+    words_after_blanks text n (λ k h. yes_of_not _ (at.2 k h)) ∙ ap words_of (sym is) ∙ at_start word some (ap is_blank here ∙ no_of_not _ at.1)
+
+pub no_words : (text : Bytes) → position not_blank text ≡ None → words_of text ≡ []
+no_words text e =
+    let past : length text ≤ position_or_len not_blank text = grind (arith, nat_tests) in
+    words_after_blanks text (length text) (λ k h. yes_of_not _ (fails_before_first not_blank text k 0 (omega arith)))
+    ∙ ap words_of (let gone : drop (length text) text ≡ [] = grind (arith, common_steps) in gone)
 
 -- no `#` stands in a text
 abbrev pub Plain : Bytes → Type 0
@@ -79,12 +87,8 @@ apart a b h = grind (arith, nat_tests)
 
 pub uncommented_plain : (bs : Bytes) → Plain bs → uncommented bs ≡ bs
 uncommented_plain [] plain = refl
-uncommented_plain (b ∷ bs) plain =
-    ap (λ t. cond t [] (b ∷ uncommented bs)) (apart b 35 (plain 0 (omega arith)))
-    ∙ ap {B = Bytes} (λ (l : Bytes). b ∷ l) (uncommented_plain bs (λ i h. plain (suc i) (suc-le-suc h)))
+uncommented_plain (b ∷ bs) plain = grind (arith, apart b 35 (plain 0 (omega arith)), uncommented_plain bs (λ i h. plain (suc i) (suc-le-suc h)))
 
 pub uncommented-cut : (xs ys : Bytes) → Plain xs → uncommented (xs ++ (35 ∷ ys)) ≡ xs
 uncommented-cut [] ys plain = refl
-uncommented-cut (b ∷ bs) ys plain =
-    ap (λ t. cond t [] (b ∷ uncommented (bs ++ (35 ∷ ys)))) (apart b 35 (plain 0 (omega arith)))
-    ∙ ap {B = Bytes} (λ (l : Bytes). b ∷ l) (uncommented-cut bs ys (λ i h. plain (suc i) (suc-le-suc h)))
+uncommented-cut (b ∷ bs) ys plain = grind (arith, apart b 35 (plain 0 (omega arith)), uncommented-cut bs ys (λ i h. plain (suc i) (suc-le-suc h)))

@@ -1,5 +1,4 @@
 -- How texts are cut into lines and words, and what words write.
 pub mod Cuts
-pub mod Compared
 pub mod Figures
 pub mod Split

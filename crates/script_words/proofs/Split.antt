@@ -1,5 +1,6 @@
 -- A text cut after its first line.
-use Rattle.std.proofs.Common.{◌≡◌, ℕ, suc, ◌<◌, ◌≤◌, Bool, true, false, cond, eqb, List, [], ◌∷◌, ◌++◌, length, get_or, refl, ap, ◌∙◌, suc-le-suc, not-suc-le-zero, arith}
+use Rattle.std.proofs.Common.{Bor, Some, None, Option, unwrap_or, ◌≡◌, ℕ, suc, ◌<◌, ◌≤◌, Bool, true, false, cond, eqb, List, [], ◌∷◌, ◌++◌, length, get_or, refl, ap, ◌∙◌, suc-le-suc, not-suc-le-zero, arith}
+use Rattle.std.proofs.lemmas.Str.Pattern.{IsSplitOnceResult, split_parts}
 use Rattle.script.specs.Spelling.{Bytes}
 use Rattle.script_words.specs.Words.{onto}
 use Rattle.script_words.specs.Lines.{lines_of}
@@ -15,16 +16,22 @@ lines_none (b ∷ bs) e = absurd (omega arith)
 
 pub lines-first : (line rest : Bytes) → Unbroken line → lines_of (line ++ (10 ∷ rest)) ≡ line ∷ lines_of rest
 lines-first [] rest whole = refl
-lines-first (b ∷ bs) rest whole =
-    ap (λ t. cond t ([] ∷ lines_of (bs ++ (10 ∷ rest))) (onto b (lines_of (bs ++ (10 ∷ rest))))) (apart b 10 (whole 0 (omega arith)))
-    ∙ ap (onto b) (lines-first bs rest (λ i h. whole (suc i) (suc-le-suc h)))
+lines-first (b ∷ bs) rest whole = grind (arith, apart b 10 (whole 0 (omega arith)), lines-first bs rest (λ i h. whole (suc i) (suc-le-suc h)))
 
 pub lines_last : (line : Bytes) → 0 < length line → Unbroken line → lines_of line ≡ line ∷ []
 lines_last [] some whole = absurd (not-suc-le-zero some)
-lines_last (b ∷ []) some whole = ap (λ t. cond t ([] ∷ []) ((b ∷ []) ∷ [])) (apart b 10 (whole 0 (omega arith)))
-lines_last (b ∷ x ∷ xs) some whole =
-    ap (λ t. cond t ([] ∷ lines_of (x ∷ xs)) (onto b (lines_of (x ∷ xs)))) (apart b 10 (whole 0 (omega arith)))
-    ∙ ap (onto b) (lines_last (x ∷ xs) (omega arith) (λ i h. whole (suc i) (suc-le-suc h)))
+lines_last (b ∷ []) some whole = grind (arith, apart b 10 (whole 0 (omega arith)))
+lines_last (b ∷ x ∷ xs) some whole = grind (arith, apart b 10 (whole 0 (omega arith)), lines_last (x ∷ xs) (omega arith) (λ i h. whole (suc i) (suc-le-suc h)))
+
+-- what is cut off at the first line feed is the first line, and the whole text where there is none
+pub first_line : (text : Bytes) (r : Option (Bor Bytes × Bor Bytes)) (whole : Bor Bytes × Bor Bytes) → IsSplitOnceResult 10 text r → 0 < length text → whole.0.now ≡ text → whole.1.now ≡ [] → lines_of text ≡ (unwrap_or r whole).0.now ∷ lines_of (unwrap_or r whole).1.now
+first_line text (Some cut) whole split some all none =
+    let parts = split_parts 10 text (Some cut) split (omega arith) in
+    ap lines_of parts.0 ∙ lines-first cut.0.now cut.1.now parts.1
+first_line text None whole split some all none =
+    let last : lines_of text ≡ text ∷ [] = lines_last text some (split_parts 10 text None split (omega arith)) in
+    let rest : lines_of whole.1.now ≡ [] = ap lines_of none in
+    cc
 
 -- no text has more lines than bytes
 few_more : (b : ℕ) (ls : List Bytes) (n : ℕ) (ends : Bool) → length ls ≤ n → length (cond ends ([] ∷ ls) (onto b ls)) ≤ suc n

@@ -1,5 +1,5 @@
 -- What the words of a line say: figures, choices and sides, each read from the front of the words that are left.
-use Rattle.std.specs.Prelude.{ℕ, ◌-◌, ◌^◌, Bool, true, false, cond, ◌&&◌, List, [], ◌∷◌, length, Some, None, Ok, Err, codes, Option, Result, nat_le, nat_lt}
+use Rattle.std.specs.Prelude.{ℕ, ◌-◌, ◌^◌, cond, ◌&&◌, List, [], ◌∷◌, length, Some, None, Ok, Err, codes, Option, Result, nat_le, nat_lt}
 use Rattle.std.specs.Str.Parse.{digits_value}
 use Rattle.std.specs.Str.{all_ascii_digits, bytes_eq}
 use Rattle.entry.specs.declared.Params.{Params}
@@ -49,19 +49,12 @@ figure = figure_to (2 ^ 32 - 1)
 abbrev pub code : List Bytes → Read ℕ
 code = figure_to 255
 
--- whether a word is the first of two
-abbrev pub is_first : Bytes → Bytes → Bytes → Option Bool
-is_first this that w = cond (bytes_eq w this) (Some true) (cond (bytes_eq w that) (Some false) None)
-
-abbrev pub side_from : Bool → Side
-side_from buy = cond buy Buy Sell
-
-abbrev pub mapped : {X Y : Type 0} → (X → Y) → Option X → Option Y
-mapped f None = None
-mapped f (Some x) = Some (f x)
+-- what a word stands for that is one of two
+abbrev pub choice : {X : Type 0} → Bytes → X → Bytes → X → Bytes → Option X
+choice this x that y w = cond (bytes_eq w this) (Some x) (cond (bytes_eq w that) (Some y) None)
 
 abbrev pub side : List Bytes → Read Side
-side = one (λ w. mapped side_from (is_first (codes "buy") (codes "sell") w))
+side = one (choice (codes "buy") Buy (codes "sell") Sell)
 
 abbrev pub params : List Bytes → Read Params
 params ws =

@@ -1,5 +1,5 @@
 -- The words of a line: the longest runs without a blank, up to a comment.
-use Rattle.std.specs.Prelude.{◌≡◌, ℕ, ◌<◌, ◌≤◌, Bool, true, false, cond, ◌||◌, List, [], ◌∷◌, length, ◌==◌, ◌≢◌, slice_index}
+use Rattle.std.specs.Prelude.{ℕ, Bool, true, false, cond, ◌||◌, List, [], ◌∷◌, ◌==◌}
 use Rattle.script.specs.Spelling.{Bytes}
 use Rattle.script_words.specs.declared.words.Words.{Words}
 
@@ -26,17 +26,6 @@ abbrev pub words_of : Bytes → List Bytes
 words_of [] = []
 words_of (b ∷ bs) = cond (is_blank b) (words_of bs) (cond (goes_on bs) (onto b (words_of bs)) ((b ∷ []) ∷ words_of bs))
 
--- n is how many bytes at the front are blank, or are not
-pub record Run (bs : Bytes) (blank : Bool) (n : ℕ) : Type 0 where
-  pub within : n ≤ length bs
-  pub all : (k : ℕ) → k < n → is_blank (slice_index bs k) ≡ blank
-  pub stops : n < length bs → is_blank (slice_index bs n) ≢ blank
-
 -- the words that are left
 abbrev pub left : Words → List Bytes
 left words = words_of words.rest.now
-
--- a word before others, or none where it is empty
-abbrev pub first : Bytes → List Bytes → List Bytes
-first [] ws = []
-first (b ∷ w) ws = (b ∷ w) ∷ ws

@@ -1,11 +1,24 @@
 // The lines of a script, taken one after another.
 ghost use Rattle.std.specs.Prelude.{◌≡◌, [], ◌∷◌, MatchOption};
+ghost use Rattle.std.specs.Iterator.{YieldsFirstRef, item_count};
 ghost use Rattle.script_words.specs.Lines.{lines_of, to_come};
 
+// An iterator of its own: `split_terminator` says what its whole run gives, and where a reader stops at a line, the lines that are
+// left are needed.
 /// What is left of a script.
 #[derive(Clone, Copy)]
 pub struct Lines<'a> {
     rest: &'a str,
+}
+
+/// The first line of a text, without the byte that ends it, and what follows it, if there is a line.
+fn first_line(text: &str) -> Option<(&str, &str)>
+    ensures answer { MatchOption result (lines_of text.now ≡ []) (λ cut. lines_of text.now ≡ cut.0.now ∷ lines_of cut.1.now) }
+{
+    if text.is_empty() {
+        return None;
+    }
+    Some(text.split_once('\n').unwrap_or((text, "")))
 }
 
 impl<'a> Lines<'a> {
@@ -15,24 +28,19 @@ impl<'a> Lines<'a> {
     {
         Lines { rest: script }
     }
+}
+
+impl<'a> Iterator for Lines<'a> {
+    type Item = &'a str;
+
+    ghost next_gives = { YieldsFirstRef to_come };
+
+    ghost remaining = { item_count to_come };
 
     /// Takes the next line, without the byte that ends it.
-    pub fn next(&mut self) -> Option<&'a str>
-        ensures answer { MatchOption result (to_come self.old ≡ []) (λ line. to_come self.old ≡ line.now ∷ to_come self.new) }
-    {
-        let text = self.rest;
-        if text.is_empty() {
-            return None;
-        }
-        match text.split_once('\n') {
-            Some((line, rest)) => {
-                self.rest = rest;
-                Some(line)
-            }
-            None => {
-                self.rest = "";
-                Some(text)
-            }
-        }
+    fn next(&mut self) -> Option<&'a str> {
+        let (line, rest) = first_line(self.rest)?;
+        self.rest = rest;
+        Some(line)
     }
 }

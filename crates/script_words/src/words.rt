@@ -1,7 +1,9 @@
 // The words of a line, taken one after another.
-ghost use Rattle.std.specs.Prelude.{◌≡◌, ◌-◌, [], ◌∷◌, MatchOption, MatchResult, ◌≢◌};
-ghost use Rattle.script_words.specs.Words.{is_blank, uncommented, words_of, left, first as before, Run};
-ghost use Rattle.script_words.specs.Reading.{answered, one, figure_to, is_first, number as number_of, figure as figure_of, code as code_of, side as side_of, params as params_of};
+ghost use Rattle.std.specs.Prelude.{◌≡◌, [], ◌∷◌, not, MatchOption, MatchResult, ◌≢◌};
+ghost use Rattle.std.specs.List.{position};
+ghost use Rattle.std.specs.Iterator.{YieldsFirstRef, item_count};
+ghost use Rattle.script_words.specs.Words.{is_blank, uncommented, words_of, left};
+ghost use Rattle.script_words.specs.Reading.{answered, one, figure_to, choice, number as number_of, figure as figure_of, code as code_of, side as side_of, params as params_of};
 
 use entry::{Params, Side};
 use script::faults::LineFault;
@@ -16,27 +18,30 @@ pub struct Words<'a> {
 fn is_blank(byte: u8) -> bool
     ensures answer { result ≡ is_blank byte }
 {
-    byte == b' ' || byte == b'\t' || byte == b'\r'
+    matches!(byte, b' ' | b'\t' | b'\r')
 }
 
-/// How many bytes at the front are blank, or are not.
-fn run_len(bytes: &[u8], blank: bool) -> usize
-    ensures answer { Run bytes.now blank result }
+/// Where the first word of a text starts, if there is one.
+fn word_start(text: &str) -> Option<usize>
+    ensures answer { result ≡ position (λ byte. not (is_blank byte)) text.now }
 {
-    for (i, byte) in bytes.iter().enumerate() {
-        if is_blank(*byte) != blank {
-            return i;
-        }
-    }
-    bytes.len()
+    text.bytes().position(|byte| !is_blank(byte))
 }
 
-/// The first word of a text, which is empty where there is none, and what follows it.
-fn first_word(text: &str) -> (&str, &str)
-    ensures answer { words_of text.now ≡ before result.0.now (words_of result.1.now) }
+/// Where the first blank of a text stands, if there is one.
+fn first_blank(text: &str) -> Option<usize>
+    ensures answer { result ≡ position is_blank text.now }
 {
-    let (_, from) = text.split_at(run_len(text.as_bytes(), true));
-    from.split_at(run_len(from.as_bytes(), false))
+    text.bytes().position(is_blank)
+}
+
+/// The first word of a text and what follows it, if there is a word.
+fn first_word(text: &str) -> Option<(&str, &str)>
+    ensures answer { MatchOption result (words_of text.now ≡ []) (λ cut. words_of text.now ≡ cut.0.now ∷ words_of cut.1.now) }
+{
+    let (_, word) = text.split_at(word_start(text)?);
+    let end = first_blank(word).unwrap_or(word.len());
+    Some(word.split_at(end))
 }
 
 /// The number that a word of decimal digits writes, if it fits.
@@ -54,32 +59,18 @@ impl<'a> Words<'a> {
     pub fn new(line: &'a str) -> Words<'a>
         ensures made { left result ≡ words_of (uncommented line.now) }
     {
-        match line.split_once('#') {
-            Some((rest, _)) => Words { rest },
-            None => Words { rest: line },
-        }
-    }
-
-    /// Takes the next word.
-    pub fn next(&mut self) -> Option<&'a str>
-        ensures answer { MatchOption result (left self.old ≡ []) (λ word. left self.old ≡ word.now ∷ left self.new) }
-    {
-        let (word, rest) = first_word(self.rest);
-        self.rest = rest;
-        if word.is_empty() { None } else { Some(word) }
+        let (rest, _) = line.split_once('#').unwrap_or((line, ""));
+        Words { rest }
     }
 
     /// Takes the next word, which has to be a figure of at most `most`.
     pub fn figure_to(&mut self, name: &'static str, most: u32) -> Result<u32, LineFault<'a>>
         ensures answer { answered result (left self.new) ≡ figure_to most (left self.old) }
     {
-        let Some(word) = self.next() else {
-            return Err(LineFault::Missing { name });
-        };
-        match number(word) {
-            Some(figure) if figure <= most => Ok(figure),
-            _ => Err(LineFault::NotFigure { name, word, most }),
-        }
+        let word = self.next().ok_or(LineFault::Missing { name })?;
+        number(word)
+            .filter(|figure| *figure <= most)
+            .ok_or(LineFault::NotFigure { name, word, most })
     }
 
     /// Takes the next word, which has to be a figure.
@@ -93,25 +84,27 @@ impl<'a> Words<'a> {
     pub fn code(&mut self, name: &'static str) -> Result<u8, LineFault<'a>>
         ensures answer { answered result (left self.new) ≡ code_of (left self.old) }
     {
-        let figure = self.figure_to(name, 255)?;
+        let figure = self.figure_to(name, u32::from(u8::MAX))?;
         Ok(figure as u8)
     }
 
-    /// Takes the next word, which has to be one of two: whether it is the first.
-    pub fn is_first(
+    /// Takes the next word, which has to be one of two, and gives what that one stands for.
+    pub fn choice<T: Copy>(
         &mut self,
-        first: &'static str,
-        second: &'static str,
-    ) -> Result<bool, LineFault<'a>>
-        ensures answer { answered result (left self.new) ≡ one (is_first first.now second.now) (left self.old) }
+        first: (&'static str, T),
+        second: (&'static str, T),
+    ) -> Result<T, LineFault<'a>>
+        ensures answer { answered result (left self.new) ≡ one (choice first.entry.0.now first.entry.1 second.entry.0.now second.entry.1) (left self.old) }
     {
-        let Some(word) = self.next() else {
-            return Err(LineFault::MissingChoice { first, second });
-        };
+        let (first, if_first) = first;
+        let (second, if_second) = second;
+        let word = self
+            .next()
+            .ok_or(LineFault::MissingChoice { first, second })?;
         if word == first {
-            Ok(true)
+            Ok(if_first)
         } else if word == second {
-            Ok(false)
+            Ok(if_second)
         } else {
             Err(LineFault::Neither {
                 word,
@@ -125,8 +118,7 @@ impl<'a> Words<'a> {
     pub fn side(&mut self) -> Result<Side, LineFault<'a>>
         ensures answer { answered result (left self.new) ≡ side_of (left self.old) }
     {
-        let buy = self.is_first("buy", "sell")?;
-        Ok(if buy { Side::Buy } else { Side::Sell })
+        self.choice(("buy", Side::Buy), ("sell", Side::Sell))
     }
 
     /// Takes the next four words, which have to be the figures of risk parameters.
@@ -148,5 +140,20 @@ impl<'a> Words<'a> {
             Some(word) => Err(LineFault::TooMany { word }),
             None => Ok(()),
         }
+    }
+}
+
+impl<'a> Iterator for Words<'a> {
+    type Item = &'a str;
+
+    ghost next_gives = { YieldsFirstRef left };
+
+    ghost remaining = { item_count left };
+
+    /// Takes the next word.
+    fn next(&mut self) -> Option<&'a str> {
+        let (word, rest) = first_word(self.rest)?;
+        self.rest = rest;
+        Some(word)
     }
 }

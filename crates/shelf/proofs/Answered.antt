@@ -1,14 +1,16 @@
 -- What the shelf's calls answer, and what a call that writes leaves of the records handed over.
-use Rattle.std.proofs.Common.{◌≡◌, ℕ, zero, suc, ◌<◌, ◌≤◌, Bool, true, false, cond, not, ◌&&◌, List, [], ◌∷◌, ◌++◌, length, get_or, take, drop, set, Some, None, Ok, Err, Option, Result, sym, refl, ap, ◌∙◌, arith}
-use Rattle.std.proofs.lemmas.List.{take-append-drop, take_at, length-take-le, length-append, set-append_left, get_or-take}
+use Rattle.std.proofs.Common.{◌≡◌, ℕ, zero, suc, ◌+◌, ◌-◌, ◌<◌, ◌≤◌, Bool, true, false, cond, not, ◌&&◌, List, [], ◌∷◌, ◌++◌, length, get_or, take, drop, set, Some, None, Ok, Err, Option, Result, sym, refl, ap, ◌∙◌, arith}
+use Rattle.std.proofs.lemmas.List.{take-append-drop, take_at, length-take-le, length-append, length-set, set-append_left, get_or-take}
 use Rattle.std.proofs.lemmas.Option.{slice_get_read, slice_get_past}
 use Rattle.std.proofs.lemmas.Bool.{lt-ltb, le-ltb, cond-true, cond-false}
-use Rattle.std.specs.List.{remove, slice_get}
+use Rattle.std.specs.List.{insert, remove, slice_get}
 use Rattle.shelf.specs.declared.ShelfFault.{ShelfFault}
 use Rattle.shelf.specs.declared.ShelfFault.TheVariants.{Taken, NoRoom, Elsewhere}
-use Rattle.shelf.specs.Order.{ascends, stands, has_key}
+use Rattle.std.proofs.lemmas.List.Edits.{length-insert, length-remove}
+use Rattle.shelf.specs.Order.{ascends, place, placed, stands, sought, has_key}
 use Rattle.shelf.specs.Standing.{over}
-use Rattle.shelf.specs.Calls.{on_ok, insert_answer, replace_answer}
+use Rattle.shelf.specs.Calls.{on_ok, insert_answer, insert_live, replace_answer, replace_live}
+use Rattle.shelf.proofs.Order.{sought_err, place_all, inserted_placed, ascends_placed, ascends_set, ascends_removed}
 
 -- what a refusal and what a success leave
 pub kept : {X : Type 0} {f : ShelfFault} (r : Result (Unit {0}) ShelfFault) (x y : X) → r ≡ Err f → y ≡ on_ok r x y
@@ -64,8 +66,8 @@ module _ {R : Type 0} (front xs ys : List R) (m : ℕ) (l : length front ≡ m) 
   pub fits_written : m ≤ length ys
   fits_written = omega (arith, ap length e, length-append front (drop m xs))
 
-  pub stands_written : {K : Type 0} (key : R → K) (before : K → K → Bool) → ascends key before front ≡ true → (m ≤ length ys) × (ascends key before (take m ys) ≡ true)
-  stands_written key before a = (fits_written, ap (ascends key before) live_written ∙ a)
+  pub sorted_written : {K : Type 0} (key : R → K) (before : K → K → Bool) → ascends key before front ≡ true → ascends key before (take m ys) ≡ true
+  sorted_written key before a = ap (ascends key before) live_written ∙ a
 
 -- a record written among the first n
 pub set_front : {R : Type 0} (xs : List R) (n i : ℕ) (x : R) → n ≤ length xs → i < n → set xs i x ≡ set (take n xs) i x ++ drop n xs
@@ -104,3 +106,70 @@ module _ {R K : Type 0} (key : R → K) (before : K → K → Bool) where
 
     pub replace_done : (x : R) → Some x ≡ slice_get xs at → before (key x) (key r) ≡ false → before (key r) (key x) ≡ false → replace_answer key before at r xs ≡ Ok tt
     replace_done x e p q = replace-some x false false e p q
+
+  -- what insert leaves, where the key k of the record stands nowhere among the first n of the records xs, of which one more is free
+  module _ (transitive : (x y z : K) → before x y ≡ true → before y z ≡ true → before x z ≡ true) (r : R) (xs ys : List R) (n at : ℕ) (k : K)
+      (room : n < length xs) (sorted : ascends key before (take n xs) ≡ true) (named : k ≡ key r) (missing : Err at ≡ sought key before k (take n xs))
+      (written : ys ≡ insert (take n xs) at r ++ drop (n + 1) xs) where
+    long : length (take n xs) ≡ n
+    long = length-take-le n xs (omega arith)
+
+    absent : stands key before (key r) (take n xs) ≡ false
+    absent = ap (λ j. stands key before j (take n xs)) (sym named) ∙ (sought_err key before k (take n xs) at missing).0
+
+    put : ys ≡ placed key before r (take n xs) ++ drop (n + 1) xs
+    put =
+        let w : at ≡ place key before (key r) (take n xs) = (sought_err key before k (take n xs) at missing).1 ∙ ap (λ j. place key before j (take n xs)) named in
+        written ∙ ap (λ z. z ++ drop (n + 1) xs) (ap (λ j. insert (take n xs) j r) w ∙ inserted_placed key before r (take n xs))
+
+    longer : length (placed key before r (take n xs)) ≡ n + 1
+    longer =
+        let q = place_all key before (key r) (take n xs) in
+        ap length (sym (inserted_placed key before r (take n xs))) ∙ length-insert (take n xs) _ r (omega (arith, q)) ∙ ap (λ j. j + 1) long
+
+    answered : insert_answer key before r (take n xs) (length xs) ≡ Ok tt
+    answered = insert_done r (take n xs) (length xs) absent (omega (arith, long))
+
+    pub insert_sound : (n + 1 ≤ length ys) × (ascends key before (take (n + 1) ys) ≡ true)
+    insert_sound = (fits_written _ xs ys (n + 1) longer put, sorted_written _ xs ys (n + 1) longer put key before (ascends_placed key before transitive r (take n xs) sorted absent))
+
+    pub inserted : take (n + 1) ys ≡ insert_live key before r (take n xs) (length xs)
+    inserted = live_written _ xs ys (n + 1) longer put ∙ done _ (placed key before r (take n xs)) (take n xs) answered
+
+    pub insert_kept : ys ≡ over (take (n + 1) ys) xs
+    insert_kept = records_written _ xs ys (n + 1) longer put
+
+  -- what replace leaves, where a record x with the key of r stands at the place
+  module _ (total : (x y : K) → before x y ≡ false → before y x ≡ false → x ≡ y) (r x : R) (xs : List R) (n at : ℕ) (fits : n ≤ length xs) (sorted : ascends key before (take n xs) ≡ true)
+      (stood : Some x ≡ slice_get (take n xs) at) (early : before (key x) (key r) ≡ false) (late : before (key r) (key x) ≡ false) where
+    within : at < n
+    within = let e = length-take-le n xs fits in let i = nth_inside (take n xs) at x stood in omega arith
+
+    over_it : set xs at r ≡ set (take n xs) at r ++ drop n xs
+    over_it = set_front xs n at r fits within
+
+    alike : length (set (take n xs) at r) ≡ n
+    alike = length-set (take n xs) at r ∙ length-take-le n xs fits
+
+    pub replace_sound : (n ≤ length (set xs at r)) × (ascends key before (take n (set xs at r)) ≡ true)
+    replace_sound =
+        let same : key r ≡ key (get_or (take n xs) at r) = total (key r) (key x) late early ∙ ap key (sym (nth_is (take n xs) at x r stood)) in
+        (fits_written _ xs _ n alike over_it, sorted_written _ xs _ n alike over_it key before (ascends_set key before (take n xs) at r same ∙ sorted))
+
+    pub replaced : take n (set xs at r) ≡ replace_live key before at r (take n xs)
+    replaced = live_written _ xs _ n alike over_it ∙ done _ (set (take n xs) at r) (take n xs) (replace_done at r (take n xs) x stood early late)
+
+    pub replace_kept : set xs at r ≡ over (take n (set xs at r)) xs
+    replace_kept = records_written _ xs _ n alike over_it
+
+  -- what remove leaves, where a record x stands at the place
+  module _ (x : R) (xs ys : List R) (n at : ℕ) (fits : n ≤ length xs) (sorted : ascends key before (take n xs) ≡ true)
+      (stood : Some x ≡ slice_get (take n xs) at) (written : ys ≡ remove (take n xs) at ++ drop (n - 1) xs) where
+    pub shorter : length (remove (take n xs) at) ≡ n - 1
+    shorter = let e = length-take-le n xs fits in let i = nth_inside (take n xs) at x stood in omega (arith, length-remove (take n xs) at i)
+
+    pub remove_sound : (n - 1 ≤ length ys) × (ascends key before (take (n - 1) ys) ≡ true)
+    remove_sound = (fits_written _ xs ys (n - 1) shorter written, sorted_written _ xs ys (n - 1) shorter written key before (ascends_removed key before (take n xs) at sorted))
+
+    pub removed : take (n - 1) ys ≡ remove (take n xs) at
+    removed = live_written _ xs ys (n - 1) shorter written

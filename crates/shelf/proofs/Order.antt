@@ -1,9 +1,9 @@
 -- Records in order: the place of a key, and what stays in order.
-use Rattle.std.proofs.Common.{◌≡◌, ℕ, zero, suc, ◌<◌, ◌≤◌, Bool, true, false, cond, not, ◌&&◌, List, [], ◌∷◌, length, get_or, take, set, Ok, Err, Result, sym, refl, ap, ◌∙◌, subst, inl, inr, arith, get_or-take}
+use Rattle.std.proofs.Common.{◌≡◌, ℕ, zero, suc, ◌<◌, ◌≤◌, Bool, true, false, cond, not, ◌&&◌, List, [], ◌∷◌, length, get_or, take, set, Some, None, Ok, Err, Result, sym, refl, ap, ◌∙◌, subst, inl, inr, arith}
 use Rattle.std.specs.List.{insert, remove, slice_get}
-use Rattle.std.proofs.lemmas.Bool.{and_parts, and_from, cases_Bool, cond-true}
+use Rattle.std.specs.List.Sorted.{IsPartitionedBy, IsPartitionPoint}
+use Rattle.std.proofs.lemmas.Bool.{and_parts, and_from, cases_Bool, cond-true, cond-false}
 use Rattle.std.proofs.lemmas.Bool.Decides.{nat_tests}
-use Rattle.std.proofs.lemmas.List.{length-take-le}
 use Rattle.shelf.specs.Order.{all_after, ascends, place, stands, placed, sought, first_after}
 
 clash : {X : Type 0} → (b : Bool) → b ≡ true → b ≡ false → X
@@ -32,13 +32,18 @@ module _ {R K : Type 0} (key : R → K) (before : K → K → Bool) where
   all_after_at k (x ∷ xs) zero d h a = (and_parts (before k (key x)) (all_after key before k xs) a).0
   all_after_at k (x ∷ xs) (suc i) d h a = all_after_at k xs i d (omega arith) (and_parts (before k (key x)) (all_after key before k xs) a).1
 
-  -- whether the record at its place has the key
-  pub stands_at : (k : K) (xs : List R) (d : R) → place key before k xs < length xs → stands key before k xs ≡ not (before k (key (get_or xs (place key before k xs) d)))
-  stands_at k [] d h = absurd (omega arith)
-  stands_at k (x ∷ xs) d h =
-      let F : Bool → Type 0 = λ v. cond v (suc (place key before k xs)) 0 < suc (length xs) → cond v (stands key before k xs) (not (before k (key x))) ≡ not (before k (key (get_or (x ∷ xs) (cond v (suc (place key before k xs)) 0) d))) in
-      let ih : place key before k xs < length xs → stands key before k xs ≡ not (before k (key (get_or xs (place key before k xs) d))) = stands_at k xs d in
-      elim (before (key x) k) as F [ true ↦ λ g. ih (omega arith) | false ↦ λ g. refl ] h
+  -- the record at its place tells whether the key stands
+  pub stands_read : (k : K) (xs : List R) (r : R) → Some r ≡ slice_get xs (place key before k xs) → stands key before k xs ≡ not (before k (key r))
+  stands_read k [] r e = absurd (let z : ◌≡◌ {A = ℕ} 0 1 = cc in omega arith)
+  stands_read k (x ∷ xs) r e =
+      let F : Bool → Type 0 = λ v. Some r ≡ slice_get (x ∷ xs) (cond v (suc (place key before k xs)) 0) → cond v (stands key before k xs) (not (before k (key x))) ≡ not (before k (key r)) in
+      elim (before (key x) k) as F [ true ↦ λ q. stands_read k xs r q | false ↦ λ q. let o : x ≡ r = cc in ap (λ z. not (before k (key z))) o ] e
+
+  pub stands_past : (k : K) (xs : List R) → None ≡ slice_get xs (place key before k xs) → stands key before k xs ≡ false
+  stands_past k [] e = refl
+  stands_past k (x ∷ xs) e =
+      let F : Bool → Type 0 = λ v. None ≡ slice_get (x ∷ xs) (cond v (suc (place key before k xs)) 0) → cond v (stands key before k xs) (not (before k (key x))) ≡ false in
+      elim (before (key x) k) as F [ true ↦ λ q. stands_past k xs q | false ↦ λ q. absurd (let z : ◌≡◌ {A = ℕ} 0 1 = cc in omega arith) ] e
 
   -- a key that stands has its place among the records
   pub place_inside : (k : K) (xs : List R) → stands key before k xs ≡ true → place key before k xs < length xs
@@ -47,12 +52,6 @@ module _ {R K : Type 0} (key : R → K) (before : K → K → Bool) where
       let F : Bool → Type 0 = λ v. cond v (stands key before k xs) (not (before k (key x))) ≡ true → cond v (suc (place key before k xs)) 0 < suc (length xs) in
       let ih : stands key before k xs ≡ true → place key before k xs < length xs = place_inside k xs in
       elim (before (key x) k) as F [ true ↦ λ g. let l = ih g in omega arith | false ↦ λ g. omega arith ] h
-
-  pub stands_past : (k : K) (xs : List R) → length xs ≤ place key before k xs → stands key before k xs ≡ false
-  stands_past k [] h = refl
-  stands_past k (x ∷ xs) h =
-      let F : Bool → Type 0 = λ v. suc (length xs) ≤ cond v (suc (place key before k xs)) 0 → cond v (stands key before k xs) (not (before k (key x))) ≡ false in
-      elim (before (key x) k) as F [ true ↦ λ g. stands_past k xs (omega arith) | false ↦ λ g. absurd (omega arith) ] h
 
   -- the shift gives the ordered insertion
   pub inserted_placed : (r : R) (xs : List R) → insert xs (place key before (key r) xs) r ≡ placed key before r xs
@@ -78,6 +77,21 @@ module _ {R K : Type 0} (key : R → K) (before : K → K → Bool) where
       let p = and_parts (all_after key before (key x) xs) (ascends key before xs) a in
       and_from (all_after key before (key x) (remove xs i)) (ascends key before (remove xs i)) (all_after_removed (key x) xs i p.0) (ascends_removed xs i p.1)
 
+  pub all_after_taken : (k : K) (xs : List R) (n : ℕ) → all_after key before k xs ≡ true → all_after key before k (take n xs) ≡ true
+  all_after_taken k xs zero a = refl
+  all_after_taken k [] (suc n) a = refl
+  all_after_taken k (x ∷ xs) (suc n) a =
+      let p = and_parts (before k (key x)) (all_after key before k xs) a in
+      and_from (before k (key x)) (all_after key before k (take n xs)) p.0 (all_after_taken k xs n p.1)
+
+  -- the first records are in order too
+  pub ascends_taken : (xs : List R) (n : ℕ) → ascends key before xs ≡ true → ascends key before (take n xs) ≡ true
+  ascends_taken xs zero a = refl
+  ascends_taken [] (suc n) a = refl
+  ascends_taken (x ∷ xs) (suc n) a =
+      let p = and_parts (all_after key before (key x) xs) (ascends key before xs) a in
+      and_from (all_after key before (key x) (take n xs)) (ascends key before (take n xs)) (all_after_taken (key x) xs n p.0) (ascends_taken xs n p.1)
+
   pub all_after_set : (k : K) (xs : List R) (i : ℕ) (a : R) → key a ≡ key (get_or xs i a) → all_after key before k (set xs i a) ≡ all_after key before k xs
   all_after_set k [] i a e = refl
   all_after_set k (x ∷ xs) zero a e = ap (λ z. before k z && all_after key before k xs) e
@@ -88,17 +102,24 @@ module _ {R K : Type 0} (key : R → K) (before : K → K → Bool) where
   ascends_set (x ∷ xs) zero a e = ap (λ z. all_after key before z xs && ascends key before xs) e
   ascends_set (x ∷ xs) (suc i) a e = ap (λ v. v && ascends key before (set xs i a)) (all_after_set (key x) xs i a e) ∙ ap (λ v. all_after key before (key x) xs && v) (ascends_set xs i a e)
 
-  -- what the test of the record at i says of the list
-  pub test_at : (k : K) (s : List R) (n i : ℕ) (d : R) (q : K) (v : Bool) → i < n → d ≡ get_or s i d → q ≡ key d → v ≡ before q k → before (key (get_or (take n s) i d)) k ≡ v
-  test_at k s n i d q v h e eq ev = ap (λ z. before (key z) k) (get_or-take n s i d h ∙ sym e) ∙ sym (ap (λ z. before z k) eq) ∙ sym ev
+  -- every record below the place has a key before k
+  below_place : (k : K) (xs : List R) (i : ℕ) (d : R) → i < place key before k xs → before (key (get_or xs i d)) k ≡ true
+  below_place k [] i d h = absurd (omega arith)
+  below_place k (x ∷ xs) zero d h =
+      let F : Bool → Type 0 = λ v. 0 < cond v (suc (place key before k xs)) 0 → v ≡ true in
+      elim (before (key x) k) as F [ true ↦ λ g. refl | false ↦ λ g. absurd (omega arith) ] h
+  below_place k (x ∷ xs) (suc i) d h =
+      let F : Bool → Type 0 = λ v. suc i < cond v (suc (place key before k xs)) 0 → before (key (get_or xs i d)) k ≡ true in
+      elim (before (key x) k) as F [ true ↦ λ g. below_place k xs i d (omega arith) | false ↦ λ g. absurd (omega arith) ] h
 
-  pub stands_test : (k : K) (s : List R) (n i : ℕ) (d : R) (q : K) (v : Bool) → n ≤ length s → i ≡ place key before k (take n s) → i < n → d ≡ get_or s i d → q ≡ key d → v ≡ before k q → stands key before k (take n s) ≡ not v
-  stands_test k s n i d q v ln ei h e eq ev =
-      let l : length (take n s) ≡ n = length-take-le n s ln in
-      stands_at k (take n s) d (omega arith)
-      ∙ ap (λ j. not (before k (key (get_or (take n s) j d)))) (sym ei)
-      ∙ ap (λ z. not (before k (key z))) (get_or-take n s i d h ∙ sym e)
-      ∙ ap (λ z. not (before k z)) (sym eq) ∙ ap not (sym ev)
+  -- where the test of a binary search parts the records, there is the place
+  pub place_parts : (k : K) (xs : List R) (i : ℕ) → i ≤ length xs → IsPartitionPoint (λ x. before (key x) k ≡ true) (λ x. before (key x) k ≡ false) xs i → i ≡ place key before k xs
+  place_parts k [] zero h p = refl
+  place_parts k [] (suc i) h p = absurd (omega arith)
+  place_parts k (x ∷ xs) zero h p = sym (cond-false _ _ _ (p.1 0 x (omega arith) (omega arith)))
+  place_parts k (x ∷ xs) (suc i) h p =
+      let ih = place_parts k xs i (omega arith) (λ j d a b. p.0 (suc j) d (omega arith) (omega arith), λ j d a b. p.1 (suc j) d (omega arith) (omega arith)) in
+      ap suc ih ∙ sym (cond-true _ _ _ (p.0 0 x (omega arith) (omega arith)))
 
   pub ok_sought : (k : K) (xs : List R) (i : ℕ) → i ≡ place key before k xs → stands key before k xs ≡ true → Ok i ≡ sought key before k xs
   ok_sought k xs i e h =
@@ -136,6 +157,10 @@ module _ {R K : Type 0} (key : R → K) (before : K → K → Bool) where
         let ih : i < place key before k xs = place_gt k xs i d p.1 il b in
         let xk : before (key x) k ≡ true = transitive (key x) (key (get_or xs i d)) k (all_after_at (key x) xs i d il p.0) b in
         subst (λ (v : Bool). suc i < cond v (suc (place key before k xs)) 0) (sym xk) (omega arith)
+
+    -- the records with keys before k come first
+    pub parted : (k : K) (xs : List R) → ascends key before xs ≡ true → IsPartitionedBy (λ x. before (key x) k) xs
+    parted k xs a i j d h l b = below_place k xs i d (let p = place_gt k xs j d a l b in omega arith)
 
     pub all_after_earlier : (j k : K) (xs : List R) → before j k ≡ true → all_after key before k xs ≡ true → all_after key before j xs ≡ true
     all_after_earlier j k [] b a = refl

@@ -1,4 +1,5 @@
 // Two boards driven by the same orders, and compared.
+use board::standing::Levels;
 use board::{Board, BoardFault};
 use entry::Side;
 
@@ -11,23 +12,12 @@ fn next_number(number: u32) -> u32 {
 }
 
 /// Whether a side of two boards has the same levels, best first, at most `most` of them.
-pub(crate) fn same_levels<A: Board, B: Board>(a: &A, b: &B, side: Side, most: u32) -> bool {
-    let mut x = a.best(side);
-    let mut y = b.best(side);
-    for _ in 0..=most {
-        match (x, y) {
-            (Some(p), Some(q)) => {
-                if p != q || a.at(side, p.price) != Some(p) || b.at(side, q.price) != Some(q) {
-                    return false;
-                }
-                x = a.next(side, p.price);
-                y = b.next(side, q.price);
-            }
-            (None, None) => return true,
-            _ => return false,
-        }
-    }
-    false
+pub(crate) fn same_levels<A: Board, B: Board>(a: &A, b: &B, side: Side, most: usize) -> bool {
+    Levels::of(a, side).nth(most).is_none()
+        && Levels::of(a, side).eq(Levels::of(b, side))
+        && Levels::of(a, side).all(|level| {
+            a.at(side, level.price) == Some(level) && b.at(side, level.price) == Some(level)
+        })
 }
 
 /// Sends so many orders, of which about two in three come and one in three leaves, to two boards.
@@ -61,22 +51,12 @@ pub(crate) fn same_answers<A: Board, B: Board>(
 
 /// Adds a level at each of so many prices. Whether each was taken.
 pub(crate) fn fill<B: Board>(board: &mut B, side: Side, start: u32, levels: u32) -> bool {
-    for i in 0..levels {
-        if board.add(side, start.saturating_add(i), i) != Ok(()) {
-            return false;
-        }
-    }
-    true
+    (0..levels).all(|i| board.add(side, start.saturating_add(i), i) == Ok(()))
 }
 
 /// Adds so many orders at one price. Whether each was taken.
 pub(crate) fn pile<B: Board>(board: &mut B, side: Side, price: u32, orders: u32) -> bool {
-    for time in 0..orders {
-        if board.add(side, price, time) != Ok(()) {
-            return false;
-        }
-    }
-    true
+    (0..orders).all(|time| board.add(side, price, time) == Ok(()))
 }
 
 /// Whether one more order at a price is refused like this.

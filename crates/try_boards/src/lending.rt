@@ -11,14 +11,9 @@ use ladder::records::{BuyLevel, SellLevel};
 pub fn lend_for_one(buys: &mut [BuyLevel], sells: &mut [SellLevel]) -> Option<Level>
     ensures answer { result ≡ lent_level (length buys.old) (length sells.old) }
 {
-    if let Err(_) = Ladder::test(buys.len(), sells.len()) {
-        return None;
-    }
+    Ladder::test(buys.len(), sells.len()).ok()?;
     let mut ladder = Ladder::new(buys, sells);
     let _ = ladder.add(Side::Buy, 7, 3);
     let (records, _) = ladder.into_records();
-    if records.is_empty() {
-        return None;
-    }
-    Some(records[0].0)
+    Some(records.first()?.0)
 }

@@ -19,9 +19,7 @@ use ladder::records::{BuyLevel, SellLevel};
 pub fn new_ladder(buys: &mut [BuyLevel], sells: &mut [SellLevel]) -> Option<Level>
     ensures answer { result ≡ None }
 {
-    if let Err(_) = Ladder::test(buys.len(), sells.len()) {
-        return None;
-    }
+    Ladder::test(buys.len(), sells.len()).ok()?;
     let ladder = Ladder::new(buys, sells);
     ladder.best(Side::Buy)
 }
@@ -30,9 +28,7 @@ pub fn new_ladder(buys: &mut [BuyLevel], sells: &mut [SellLevel]) -> Option<Leve
 pub fn new_grid(start: u32) -> Option<Level>
     ensures answer { result ≡ None }
 {
-    if let Err(_) = Grid::test(start) {
-        return None;
-    }
+    Grid::test(start).ok()?;
     let grid = Grid::new(start);
     grid.best(Side::Sell)
 }

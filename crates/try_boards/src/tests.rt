@@ -9,12 +9,6 @@ use ladder::Ladder;
 use ladder::records::{BuyLevel, SellLevel};
 use std::test::Fail;
 
-const BLANK: Level = Level {
-    price: 0,
-    orders: 0,
-    since: 0,
-};
-
 #[test]
 fn first_tests(rt: HostRuntime) {
     assert!(rt; matches!(Grid::test(0), Err(Refusal::OutOfRange)));
@@ -30,15 +24,11 @@ fn first_tests(rt: HostRuntime) {
 
 #[test]
 fn alike_under_many_orders(rt: HostRuntime) -> Result<(), Fail> {
-    let mut buys = [BuyLevel(BLANK); 256];
-    let mut sells = [SellLevel(BLANK); 256];
-    let Ok(()) = Ladder::test(256, 256) else {
-        return Err(Fail::new("refused"));
-    };
+    let mut buys = [BuyLevel::default(); 256];
+    let mut sells = [SellLevel::default(); 256];
+    Ladder::test(256, 256)?;
     let mut ladder = Ladder::new(&mut buys, &mut sells);
-    let Ok(()) = Grid::test(1_000) else {
-        return Err(Fail::new("refused"));
-    };
+    Grid::test(1_000)?;
     let mut grid = Grid::new(1_000);
     assert!(rt; same_answers(&mut ladder, &mut grid, 1_000, 100_000));
     assert!(rt; same_levels(&ladder, &grid, Side::Buy, 256));
@@ -50,15 +40,11 @@ fn alike_under_many_orders(rt: HostRuntime) -> Result<(), Fail> {
 
 #[test]
 fn filled_to_the_last_level(rt: HostRuntime) -> Result<(), Fail> {
-    let mut buys = [BuyLevel(BLANK); 256];
-    let mut sells = [SellLevel(BLANK); 256];
-    let Ok(()) = Ladder::test(256, 256) else {
-        return Err(Fail::new("refused"));
-    };
+    let mut buys = [BuyLevel::default(); 256];
+    let mut sells = [SellLevel::default(); 256];
+    Ladder::test(256, 256)?;
     let mut ladder = Ladder::new(&mut buys, &mut sells);
-    let Ok(()) = Grid::test(1_000) else {
-        return Err(Fail::new("refused"));
-    };
+    Grid::test(1_000)?;
     let mut grid = Grid::new(1_000);
     assert!(rt; fill(&mut ladder, Side::Buy, 1_000, 256));
     assert!(rt; fill(&mut grid, Side::Buy, 1_000, 256));
@@ -78,15 +64,11 @@ fn filled_to_the_last_level(rt: HostRuntime) -> Result<(), Fail> {
 
 #[test]
 fn filled_to_the_last_order(rt: HostRuntime) -> Result<(), Fail> {
-    let mut buys = [BuyLevel(BLANK); 16];
-    let mut sells = [SellLevel(BLANK); 16];
-    let Ok(()) = Ladder::test(16, 16) else {
-        return Err(Fail::new("refused"));
-    };
+    let mut buys = [BuyLevel::default(); 16];
+    let mut sells = [SellLevel::default(); 16];
+    Ladder::test(16, 16)?;
     let mut ladder = Ladder::new(&mut buys, &mut sells);
-    let Ok(()) = Grid::test(1_000) else {
-        return Err(Fail::new("refused"));
-    };
+    Grid::test(1_000)?;
     let mut grid = Grid::new(1_000);
     assert!(rt; pile(&mut ladder, Side::Sell, 1_010, 65_535));
     assert!(rt; pile(&mut grid, Side::Sell, 1_010, 65_535));
@@ -115,15 +97,11 @@ fn filled_to_the_last_order(rt: HostRuntime) -> Result<(), Fail> {
 
 #[test]
 fn outside_the_range(rt: HostRuntime) -> Result<(), Fail> {
-    let mut buys = [BuyLevel(BLANK); 16];
-    let mut sells = [SellLevel(BLANK); 16];
-    let Ok(()) = Ladder::test(16, 16) else {
-        return Err(Fail::new("refused"));
-    };
+    let mut buys = [BuyLevel::default(); 16];
+    let mut sells = [SellLevel::default(); 16];
+    Ladder::test(16, 16)?;
     let mut ladder = Ladder::new(&mut buys, &mut sells);
-    let Ok(()) = Grid::test(1) else {
-        return Err(Fail::new("refused"));
-    };
+    Grid::test(1)?;
     let mut grid = Grid::new(1);
     assert!(rt; refuses(&mut ladder, Side::Buy, 0, BoardFault::NoPlace));
     assert!(rt; refuses(&mut grid, Side::Buy, 0, BoardFault::NoPlace));
@@ -144,8 +122,8 @@ fn outside_the_range(rt: HostRuntime) -> Result<(), Fail> {
 
 #[test]
 fn records_come_back(rt: HostRuntime) {
-    let mut buys = [BuyLevel(BLANK); 16];
-    let mut sells = [SellLevel(BLANK); 16];
+    let mut buys = [BuyLevel::default(); 16];
+    let mut sells = [SellLevel::default(); 16];
     assert_eq!(rt;
         lend_for_one(&mut buys, &mut sells),
         Some(Level {

@@ -4,7 +4,7 @@
 ghost use Rattle.std.specs.Prelude.{◌≡◌, OnOk, OnErr};
 ghost use Rattle.std.specs.Process.{exit_status};
 
-use commands::encoding::{ScriptFault, encode_script};
+use commands::encoding::encode_script;
 use commands::listing::{counted, list_feed};
 use commands::request::{HELP, Request, USAGE, read_request};
 use day::report::Report;
@@ -35,39 +35,32 @@ impl From<AllocError> for Failure {
     }
 }
 
-/// Says what is wrong with a file, or with a line of it.
+/// Says what is wrong with a file, or with the program's surroundings.
 fn blame<D: Display + Drop>(rt: &HostRuntime, place: &str, why: D) -> Failure {
     let _ = eprintln!(rt; "{place}: {why}");
     Failure::Told
 }
 
+/// Says what is wrong with a line of a file. The fault is printed with the line's number before it.
+fn blame_line<D: Display + Drop>(rt: &HostRuntime, path: &str, fault: D) -> Failure {
+    let _ = eprintln!(rt; "{path}:{fault}");
+    Failure::Told
+}
+
 /// Carries out a script.
 fn day(rt: &HostRuntime, path: &str) -> Result<(), Failure> {
-    let text = match fs::read_to_string(rt, path) {
-        Ok(text) => text,
-        Err(why) => return Err(blame(rt, path, why)),
-    };
-    let Report {
-        text: printed,
-        stop,
-    } = run_script(rt.alloc(), text.as_str())?;
-    rt.print(printed.as_str())?;
+    let script = fs::read_to_string(rt, path).map_err(|why| blame(rt, path, why))?;
+    let Report { text, stop } = run_script(rt.alloc(), script.as_str())?;
+    rt.print(text.as_str())?;
     match stop {
-        Some(stop) => {
-            let line = stop.line;
-            let place = format!(in rt.alloc(); "{path}:{line}")?;
-            Err(blame(rt, place.as_str(), stop.why.as_str()))
-        }
+        Some(stop) => Err(blame_line(rt, path, stop)),
         None => Ok(()),
     }
 }
 
 /// Prints the records of a feed.
 fn decode(rt: &HostRuntime, path: &str) -> Result<(), Failure> {
-    let feed = match fs::read(rt, path) {
-        Ok(feed) => feed,
-        Err(why) => return Err(blame(rt, path, why)),
-    };
+    let feed = fs::read(rt, path).map_err(|why| blame(rt, path, why))?;
     let listing = list_feed(rt.alloc(), feed.as_slice())?;
     rt.print(listing.text.as_str())?;
     if listing.whole {
@@ -80,10 +73,11 @@ fn decode(rt: &HostRuntime, path: &str) -> Result<(), Failure> {
 /// Writes a file under a name beside it and renames that, so that an old file stays whole until the new one is.
 fn replace(rt: &HostRuntime, path: &str, bytes: &[u8]) -> io::Result<()> {
     let part = format!(in rt.alloc(); "{path}.part")?;
-    let written = match fs::write(rt, part.as_str(), bytes) {
-        Ok(()) => fs::rename(rt, part.as_str(), path),
-        Err(why) => Err(why),
-    };
+    let written = fs::write(rt, part.as_str(), bytes).and_then(|()| fs::rename(
+        rt,
+        part.as_str(),
+        path,
+    ));
     if written.is_err() {
         let _ = fs::remove_file(rt, part.as_str());
     }
@@ -92,20 +86,11 @@ fn replace(rt: &HostRuntime, path: &str, bytes: &[u8]) -> io::Result<()> {
 
 /// Writes the entry lines of a script as a feed.
 fn encode(rt: &HostRuntime, script: &str, feed: &str) -> Result<(), Failure> {
-    let text = match fs::read_to_string(rt, script) {
-        Ok(text) => text,
-        Err(why) => return Err(blame(rt, script, why)),
-    };
-    let encoded = match encode_script(rt.alloc(), text.as_str()) {
-        Ok(encoded) => encoded,
-        Err(ScriptFault { line, flaw }) => {
-            let place = format!(in rt.alloc(); "{script}:{line}")?;
-            return Err(blame(rt, place.as_str(), flaw));
-        }
-    };
-    if let Err(why) = replace(rt, feed, encoded.feed.as_slice()) {
-        return Err(blame(rt, feed, why));
-    }
+    let text = fs::read_to_string(rt, script).map_err(|why| blame(rt, script, why))?;
+    let encoded = encode_script(rt.alloc(), text.as_str()).map_err(|fault| blame_line(
+        rt, script, fault,
+    ))?;
+    replace(rt, feed, encoded.feed.as_slice()).map_err(|why| blame(rt, feed, why))?;
     rt.print(counted(rt.alloc(), encoded.records, encoded.feed.len())?)?;
     Ok(())
 }

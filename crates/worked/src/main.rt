@@ -1,8 +1,9 @@
 //! The worked examples that are runs: each list of entries on a ladder and on a grid, with the trail of both, and one record's bytes.
 #![tactic(auto)]
 
-use board::{Board, Level};
+use board::Board;
 use engine::ClosedDay;
+use entry::refusals::Refusal;
 use entry::{Entry, Params, Side};
 use feed::record::encode;
 use grid::Grid;
@@ -11,12 +12,6 @@ use ladder::records::{BuyLevel, SellLevel};
 use plan::fixed::FixedPlan;
 use rules::figures::{OpenFigures, TrailLine};
 use std::io;
-
-const BLANK: Level = Level {
-    price: 0,
-    orders: 0,
-    since: 0,
-};
 
 const EMPTY: TrailLine = TrailLine {
     answer: 99,
@@ -72,10 +67,9 @@ fn short_trail(rt: &HostRuntime) -> io::Result<()> {
     let mut trail = [EMPTY; 2];
     match ClosedDay::newly_listed().open(&grid, 0, USUAL) {
         Ok(mut day) => {
-            let answer = match day.run(&mut grid, &plan, &three(), &mut trail) {
-                Ok(()) => 0,
-                Err(refusal) => refusal.number(),
-            };
+            let answer = day
+                .run(&mut grid, &plan, &three(), &mut trail)
+                .map_or_else(Refusal::number, |()| 0);
             let OpenFigures {
                 time,
                 quotation,
@@ -110,9 +104,10 @@ fn first_day<B: Board>(board: &mut B, entries: &[Entry], trail: &mut [TrailLine]
     }
 }
 
+// The two functions differ in how a board is made, and share what is done on it.
 fn on_ladder(entries: &[Entry], trail: &mut [TrailLine]) {
-    let mut buys = [BuyLevel(BLANK); 16];
-    let mut sells = [SellLevel(BLANK); 16];
+    let mut buys = [BuyLevel::default(); 16];
+    let mut sells = [SellLevel::default(); 16];
     if Ladder::test(buys.len(), sells.len()).is_err() {
         return;
     }
@@ -136,13 +131,11 @@ fn compare(rt: &HostRuntime, name: &str, entries: &[Entry]) -> io::Result<()> {
     on_grid(entries, &mut grid);
     println!(rt; "{name}: ladder, grid")?;
     let lines = entries.len().saturating_add(1);
-    for (a, b) in ladder.iter().zip(grid.iter()).take(lines) {
-        let TrailLine { answer, quotation } = *a;
-        let TrailLine {
-            answer: same,
-            quotation: too,
-        } = *b;
-        println!(rt; "  {answer} {quotation}, {same} {too}")?;
+    for (a, b) in ladder.iter().zip(&grid).take(lines) {
+        println!(rt;
+            "  {} {}, {} {}",
+            a.answer, a.quotation, b.answer, b.quotation
+        )?;
     }
     Ok(())
 }
@@ -153,34 +146,11 @@ fn print_record(rt: &HostRuntime, entry: Entry) -> io::Result<()> {
     match encode(entry, &mut out) {
         Ok(size) => {
             for byte in out.iter().take(size) {
-                rt.print(hex(*byte >> 4))?;
-                rt.print(hex(*byte & 15))?;
-                rt.print(" ")?;
+                print!(rt; "{byte:02X} ")?;
             }
             println!(rt; "")
         }
         Err(refusal) => println!(rt; "refused {}", refusal.number()),
-    }
-}
-
-fn hex(digit: u8) -> &'static str {
-    match digit {
-        0 => "0",
-        1 => "1",
-        2 => "2",
-        3 => "3",
-        4 => "4",
-        5 => "5",
-        6 => "6",
-        7 => "7",
-        8 => "8",
-        9 => "9",
-        10 => "A",
-        11 => "B",
-        12 => "C",
-        13 => "D",
-        14 => "E",
-        _ => "F",
     }
 }
 

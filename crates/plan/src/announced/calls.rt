@@ -6,24 +6,32 @@ ghost use Rattle.plan.specs.Announced.{announced_hours, announced_records, windo
 
 use crate::Plan;
 use crate::announced::AnnouncedPlan;
-use crate::slots::{Bounding, Session, Slot, Window};
+use crate::slots::{Session, Slot, Window};
 use entry::refusals::Refusal;
+use entry::windows::{Announcement, Bounding};
 use shelf::Shelf;
 
-/// The most windows of a plan, the latest end of one, and the greatest K.
+/// The most windows of a plan.
 pub const MOST_WINDOWS: usize = 32;
 
+/// The latest end of a window, in milliseconds: ten calendar days.
 const LATEST_END: u32 = 864_000_000;
 
+/// The greatest K of a bounded window, in thousandths.
 const GREATEST_K: u32 = 1_000;
 
-// The window with these figures, where they are in range.
-fn checked(start: u32, end: u32, session: u8, bounding: Bounding, k: u32) -> Result<Window, Refusal>
-    ensures { result ≡ window_of start end session bounding k }
+// The window that is asked for, where its figures are in range.
+fn checked(asked: Announcement) -> Result<Window, Refusal>
+    ensures { result ≡ window_of asked }
 {
-    let Some(session) = Session::from_code(session) else {
-        return Err(Refusal::OutOfRange);
-    };
+    let Announcement {
+        start,
+        end,
+        session,
+        bounding,
+        k,
+    } = asked;
+    let session = Session::try_from(session)?;
     if k > GREATEST_K || start >= end || end > LATEST_END {
         return Err(Refusal::OutOfRange);
     }
@@ -58,12 +66,7 @@ impl<'a> AnnouncedPlan<'a> {
     {
         match self.shelf.find(time) {
             Ok(at) => self.shelf.get(at),
-            Err(at) => {
-                if at == 0 {
-                    return None;
-                }
-                self.shelf.get(at - 1)
-            }
+            Err(at) => self.shelf.get(at.checked_sub(1)?),
         }
     }
 
@@ -72,10 +75,8 @@ impl<'a> AnnouncedPlan<'a> {
         requires { window.start < window.end }
         ensures { result ≡ overlaps_any window (announced_hours self.now) }
     {
-        match self.last_by(window.end - 1) {
-            Some(last) => window.start < last.end,
-            None => false,
-        }
+        self.last_by(window.end - 1)
+            .is_some_and(|last| window.start < last.end)
     }
 
     // Adds a window whose figures are in range.
@@ -88,30 +89,19 @@ impl<'a> AnnouncedPlan<'a> {
         if self.overlaps(window) {
             return Err(Refusal::WindowOverlaps);
         }
-        match self.shelf.insert(window) {
-            Ok(()) => Ok(()),
-            Err(_) => Err(Refusal::TooManyWindows),
-        }
+        self.shelf
+            .insert(window)
+            .map_err(|_| Refusal::TooManyWindows)
     }
 
     /// Announces a window of a session, by its code, that is free or bounded with K. A refusal changes nothing. The windows stand
     /// in the first records, and the others keep what they held.
-    pub fn window(
-        &mut self,
-        start: u32,
-        end: u32,
-        session: u8,
-        bounding: Bounding,
-        k: u32,
-    ) -> Result<(), Refusal>
-        ensures answer { result ≡ window_answer (window_of start end session bounding k) (announced_hours self.old) }
-        ensures after { announced_hours self.new ≡ window_after (window_of start end session bounding k) (announced_hours self.old) }
+    pub fn window(&mut self, asked: Announcement) -> Result<(), Refusal>
+        ensures answer { result ≡ window_answer (window_of asked) (announced_hours self.old) }
+        ensures after { announced_hours self.new ≡ window_after (window_of asked) (announced_hours self.old) }
         ensures records { announced_records self.new ≡ over (announced_hours self.new) (announced_records self.old) }
     {
-        match checked(start, end, session, bounding, k) {
-            Ok(window) => self.add(window),
-            Err(refusal) => Err(refusal),
-        }
+        self.add(checked(asked)?)
     }
 }
 
@@ -121,14 +111,8 @@ impl Plan for AnnouncedPlan<'_> {
     fn vouch(&self) {}
 
     fn slot(&self, time: u32) -> Slot {
-        match self.last_by(time) {
-            Some(window) => {
-                if time < window.end {
-                    return window.slot;
-                }
-                Slot::NoSession
-            }
-            None => Slot::NoSession,
-        }
+        self.last_by(time)
+            .filter(|window| time < window.end)
+            .map_or(Slot::NoSession, |window| window.slot)
     }
 }

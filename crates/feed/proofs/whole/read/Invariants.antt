@@ -5,10 +5,10 @@ use Rattle.entry.specs.declared.refusals.Refusal.{Refusal}
 use Rattle.layout.specs.Laws.{Gives}
 use Rattle.feed.proofs.whole.read.Given as goal
 
-abbrev pub invariant-loop-found : goal.invariant-loop-found
-invariant-loop-found l =
+abbrev pub invariant-loop-entry : goal.invariant-loop-entry
+invariant-loop-entry l =
     (l.reader.feed.now ≡ l.feed)
     × ((es : List Entry) (end : Option Refusal) → Gives l.feed l.reader.at l.reader.seen es end → Gives l.feed 0 0 (vec_items l.entries ++ es) end)
 
-abbrev pub decreases-loop-found : goal.decreases-loop-found
-decreases-loop-found l = length l.feed - l.reader.at
+abbrev pub decreases-loop-entry : goal.decreases-loop-entry
+decreases-loop-entry l = length l.feed - l.reader.at

@@ -1,29 +1,22 @@
 -- The first rank with a level has the best one.
-use Rattle.std.proofs.Common.{ℕ, Some, Option, sym, ◌∙◌, ap₂}
-use Rattle.board.specs.declared.levels.Level.{Level}
-use Rattle.grid.specs.declared.cells.Cell.{Cell}
-use Rattle.grid.specs.Ranks.{level_in, side_over}
-use Rattle.grid.proofs.Answered.{size_of, first_is, first-none, first_below}
+use Rattle.std.proofs.Common.{◌≡◌, None, Some, drop}
+use Rattle.grid.specs.Ranks.{first_of}
+use Rattle.grid.specs.Holding.{cells_of}
+use Rattle.grid.proofs.Answered.{first_is, first-none}
 use Rattle.grid.proofs.Grid.best_from.Goals as goal
 
-pub returns-in_default : goal.returns-in_default
-returns-in_default c =
+pub returns-in_err-rank : goal.returns-in_err-rank
+returns-in_err-rank c =
     let g = c.args.self.now in
-    first-none c.args.side g.start c.args.from (side_over c.args.side g.buys.cells g.sells.cells) (sym c.in_default.ensures)
-
--- the rank that was found is one of the 256
-pub get-cell-requires : goal.get-cell-requires
-get-cell-requires c =
-    let g = c.args.self.now in
-    first_below c.args.from c.in-Some.rank (side_over c.args.side g.buys.cells g.sells.cells) (sym c.in-Some.ensures) (size_of c.args.side _ _ g.buys.size g.sells.size)
-
-pub price-requires : goal.price-requires
-price-requires c =
-    let g = c.args.self.now in
-    first_below c.args.from c.in-Some.rank (side_over c.args.side g.buys.cells g.sells.cells) (sym c.in-Some.ensures) (size_of c.args.side _ _ g.buys.size g.sells.size)
+    let s = c.args.side in
+    let e : first_of c.args.from (drop c.args.from (cells_of s g)) ≡ None = cc (c.in_err-rank.was) in
+    let n = first-none s g.start c.args.from (cells_of s g) e in
+    cc
 
 pub returns : goal.returns
 returns c =
     let g = c.args.self.now in
-    let F : ℕ → Cell → Option Level = λ p x. Some (level_in p x) in
-    ap₂ F c.price.ensures c.get-cell.ensures ∙ first_is c.args.side g.start c.args.from c.in-Some.rank (side_over c.args.side g.buys.cells g.sells.cells) (sym c.in-Some.ensures)
+    let s = c.args.side in
+    let e : first_of c.args.from (drop c.args.from (cells_of s g)) ≡ Some c.in_ok-rank.rank = cc (c.in_ok-rank.was) in
+    let f = first_is s g.start c.args.from c.in_ok-rank.rank (cells_of s g) e in
+    cc

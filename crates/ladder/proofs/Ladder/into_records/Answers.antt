@@ -3,8 +3,8 @@ use Rattle.std.proofs.Common.{◌≡◌, ℕ, ◌≤◌, List, [], ◌∷◌, ma
 use Rattle.std.proofs.lemmas.List.{length-map, length-take-le, take-map}
 use Rattle.board.specs.declared.levels.Level.{Level}
 use Rattle.shelf.specs.Standing.{held}
-use Rattle.ladder.specs.declared.records.BuyLevel.{BuyLevel}
-use Rattle.ladder.specs.declared.records.SellLevel.{SellLevel}
+use Rattle.ladder.specs.Records.{level_of}
+use Rattle.ladder.specs.Standing.{side_room}
 use Rattle.ladder.proofs.Soundness.{counts_told}
 use Rattle.ladder.proofs.Ladder.into_records.Goals as goal
 
@@ -17,12 +17,12 @@ returns c =
     let l = c.args.self in
     let b = ap (λ r. r.now) c.into_records.ensures in
     let s = ap (λ r. r.now) c.into_records-2.ensures in
-    let n = counts_told (length (held l.buys)) (length (held l.sells)) l.counts in
+    let n = counts_told (side_room l.buys) (side_room l.sells) l.counts in
     let u = ap (λ x. x.ghost_name) c.into_records.ensures in
     let v = ap (λ x. x.ghost_name) c.into_records-2.ensures in
     record {
-      buys = first-levels (λ (r : BuyLevel). r.0) (held l.buys) _ l.buys.len l.buys_stand.0 b;
-      sells = first-levels (λ (r : SellLevel). r.0) (held l.sells) _ l.sells.len l.sells_stand.0 s;
+      buys = first-levels level_of (held l.buys.shelf) _ l.buys.shelf.len l.buys.shelf.fits b;
+      sells = first-levels level_of (held l.sells.shelf) _ l.sells.shelf.len l.sells.shelf.fits s;
       most = (ap length b, ap length s ∙ n.1);
       lent = ap₂ (λ x y. x ∷ y ∷ []) u v;
     }

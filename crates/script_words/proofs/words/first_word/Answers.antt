@@ -1,31 +1,27 @@
--- A cut beside a blank falls between characters, and the run between two cuts is the first word.
-use Rattle.std.proofs.Common.{◌≡◌, ◌<◌, true, false, length, get_or, take, drop, IsUtf8, sym, ap, ◌∙◌, subst}
-use Rattle.script_words.specs.Words.{Run, is_blank, words_of, first}
-use Rattle.script_words.proofs.Cuts.{boundary_after_blanks, boundary_after-word, words_after_blanks, words_first, starts_after_blanks}
+-- A cut beside a blank falls between characters, and what stands between two cuts is the first word.
+use Rattle.std.proofs.Common.{◌≡◌, Some, ◌∙◌, sym}
+use Rattle.std.specs.List.{position, position_or_len}
+use Rattle.script_words.specs.Words.{is_blank}
+use Rattle.script_words.proofs.Cuts.{not_blank, boundary_start, boundary_end, place_or_length, first_cut, no_words}
 use Rattle.script_words.proofs.words.first_word.Goals as goal
-use Rattle.script_words.proofs.words.first_word.Goals.{After-run_len, After-run_len-2}
+use Rattle.script_words.proofs.words.first_word.Goals.{In_ok-word_start, After-unwrap_or-end}
 
-blanks : (c : After-run_len) → Run c.args.text.now true c.run_len.result
-blanks c = subst (λ l. Run l true c.run_len.result) c.as_bytes.ensures.value c.run_len.ensures.answer
+start : (c : In_ok-word_start) → position not_blank c.args.text.now ≡ Some c.in_ok-word_start.field-0
+start c = sym c.word_start.ensures.answer ∙ c.in_ok-word_start.was
 
-word : (c : After-run_len-2) → Run c.split_at.result.1.now false c.run_len-2.result
-word c = subst (λ l. Run l false c.run_len-2.result) c.as_bytes-2.ensures.value c.run_len-2.ensures.answer
+end : (c : After-unwrap_or-end) → c.unwrap_or-end.result ≡ position_or_len is_blank c.split_at.result.1.now
+end c = c.unwrap_or-end.ensures ∙ place_or_length _ _ c.first_blank.ensures.answer
+
+pub returns-in_err-word_start : goal.returns-in_err-word_start
+returns-in_err-word_start c = rw c.from_residual.ensures (record { answer = no_words c.args.text.now (sym c.word_start.ensures.answer ∙ c.in_err-word_start.was) })
 
 pub split_at-requires : goal.split_at-requires
-split_at-requires c = boundary_after_blanks _ _ (subst IsUtf8 c.as_bytes.ensures.value c.as_bytes.ensures.utf8) (blanks c)
+split_at-requires c = boundary_start _ _ c.utf8.text (start c)
 
 pub split_at-requires-2 : goal.split_at-requires-2
-split_at-requires-2 c = boundary_after-word _ _ (word c)
+split_at-requires-2 c = rw (end c) (boundary_end c.split_at.result.1.now)
 
 pub returns : goal.returns
 returns c =
-    let text = c.args.text.now in
-    let from = c.split_at.result.1.now in
-    let n = c.run_len-2.result in
-    let lead = blanks (goal.at.returns c).After-run_len in
-    let back = c.split_at.ensures.back in
-    let starts : 0 < length from → is_blank (get_or from 0 0) ≡ false =
-    subst (λ l. 0 < length l → is_blank (get_or l 0 0) ≡ false) (sym back) (starts_after_blanks text c.run_len.result lead) in
-    let cut : words_of text ≡ first (take n from) (words_of (drop n from)) =
-    words_after_blanks text c.run_len.result lead.all ∙ ap words_of (sym back) ∙ words_first from n starts (word (goal.at.returns c).After-run_len-2) in
-    record { answer = simp (c.split_at-2.ensures.front, c.split_at-2.ensures.back) cut }
+    let cut = first_cut c.args.text.now c.split_at.result.1.now c.in_ok-word_start.field-0 (start (goal.at.returns c).In_ok-word_start) c.split_at.ensures.back in
+    record { answer = simp (c.split_at-2.ensures.front, c.split_at-2.ensures.back, end (goal.at.returns c).After-unwrap_or-end) cut }

@@ -1,52 +1,35 @@
 -- Nothing stands at the place, or the record there is drawn out.
-use Rattle.std.proofs.Common.{◌≡◌, ◌-◌, length, take, refl, arith}
-use Rattle.std.specs.List.{remove}
-use Rattle.std.proofs.lemmas.List.{length-take-le}
-use Rattle.std.proofs.lemmas.List.Edits.{length-remove}
-use Rattle.shelf.specs.Standing.{live, held}
-use Rattle.shelf.proofs.Order.{ascends_removed}
-use Rattle.shelf.proofs.Answered.{over-same, removed_past, nth_inside, nth_outside, live_written, records_written, stands_written}
+use Rattle.std.proofs.Common.{◌≡◌, ◌-◌, length, take, sym, ap, ◌∙◌, arith}
+use Rattle.std.proofs.lemmas.List.{length-take-le, take-take}
+use Rattle.shelf.specs.Order.{ascends}
+use Rattle.shelf.specs.Standing.{live}
+use Rattle.shelf.proofs.Order.{ascends_taken}
+use Rattle.shelf.proofs.Answered.{removed_past, nth_inside, nth_outside, remove_sound, removed}
 use Rattle.shelf.proofs.Shelf.remove.Goals as goal
 
-pub returns-in_default : goal.returns-in_default
-returns-in_default g c =
-    let s = c.args.self.now in
-    record {
-      answer = c.in_default.ensures;
-      live = removed_past (live s) c.args.at (nth_outside (live s) c.args.at c.in_default.ensures);
-      records = over-same (held s) s.len c.requires.0;
-      most = refl;
-      stands = c.requires;
-      lent = refl;
-    }
+pub returns-in_err-old-clause-live : goal.returns-in_err-old-clause-live
+returns-in_err-old-clause-live g c = removed_past (live c.args.self.now) c.args.at (nth_outside (live c.args.self.now) c.args.at c.in_err-old.ensures)
 
-pub close_gap-requires : goal.close_gap-requires
-close_gap-requires g c =
+pub invariant_of-self : goal.invariant_of-self
+invariant_of-self g c =
     let s = c.args.self.now in
-    let e : length (take s.len s.records.now) ≡ s.len = length-take-le s.len s.records.now c.requires.0 in
-    let i = nth_inside (live s) c.args.at c.in-Some.old c.in-Some.ensures in
-    record { inside = omega arith; room = omega (arith, c.requires.0) }
+    let t = take-take (s.len - 1) s.len s.records.now (omega arith) in
+    record { fits = omega (arith, s.fits); sorted = ap (ascends g.R.Record.key g.R.Record.before) (sym t) ∙ ascends_taken g.R.Record.key g.R.Record.before (live s) (s.len - 1) s.sorted }
 
-pub overflow_sub-self : goal.overflow_sub-self
-overflow_sub-self g c =
+pub close_gap-requires-clause-inside : goal.close_gap-requires-clause-inside
+close_gap-requires-clause-inside g c =
     let s = c.args.self.now in
-    let e : length (take s.len s.records.now) ≡ s.len = length-take-le s.len s.records.now c.requires.0 in
-    let i = nth_inside (live s) c.args.at c.in-Some.old c.in-Some.ensures in
+    let e : length (take s.len s.records.now) ≡ s.len = length-take-le s.len s.records.now s.fits in
+    let i = nth_inside (live s) c.args.at c.in_ok-old.old c.in_ok-old.ensures in
     omega arith
 
-pub returns : goal.returns
-returns g c =
+pub invariant_of-self-2 : goal.invariant_of-self-2
+invariant_of-self-2 g c =
     let s = c.args.self.now in
-    let at = c.args.at in
-    let e : length (take s.len s.records.now) ≡ s.len = length-take-le s.len s.records.now c.requires.0 in
-    let i = nth_inside (live s) at c.in-Some.old c.in-Some.ensures in
-    let l : length (remove (live s) at) ≡ s.len - 1 = omega (arith, length-remove (live s) at i) in
-    let y = c.close_gap.ensures in
-    record {
-      answer = c.in-Some.ensures;
-      live = live_written (remove (live s) at) (held s) _ (s.len - 1) l y;
-      records = records_written (remove (live s) at) (held s) _ (s.len - 1) l y;
-      most = c.close_gap.auto.records;
-      stands = stands_written (remove (live s) at) (held s) _ (s.len - 1) l y g.R.Record.key g.R.Record.before (ascends_removed g.R.Record.key g.R.Record.before (live s) at c.requires.1);
-      lent = refl;
-    }
+    let o = remove_sound g.R.Record.key g.R.Record.before c.in_ok-old.old s.records.now c.close_gap.new.records s.len c.args.at s.fits s.sorted c.in_ok-old.ensures c.close_gap.ensures in
+    record { fits = o.0; sorted = o.1 }
+
+pub returns-clause-live : goal.returns-clause-live
+returns-clause-live g c =
+    let s = c.args.self.now in
+    removed g.R.Record.key g.R.Record.before c.in_ok-old.old s.records.now c.close_gap.new.records s.len c.args.at s.fits s.sorted c.in_ok-old.ensures c.close_gap.ensures

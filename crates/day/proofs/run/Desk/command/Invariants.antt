@@ -4,7 +4,7 @@ use Rattle.script_words.specs.Lines.{to_come}
 use Rattle.day.proofs.run.Desk.command.Given as goal
 
 abbrev pub invariant-loop-line : goal.invariant-loop-line
-invariant-loop-line l = length (to_come l.lines) ≤ length (to_come l.initial.lines)
+invariant-loop-line l = length (to_come l.self.lines) ≤ length (to_come l.initial.self.lines)
 
 abbrev pub decreases-loop-line : goal.decreases-loop-line
-decreases-loop-line l = length (to_come l.lines)
+decreases-loop-line l = length (to_come l.self.lines)

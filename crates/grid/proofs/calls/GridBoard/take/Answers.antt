@@ -1,29 +1,39 @@
--- Nothing stands there, or the cell is stored with one order less.
-use Rattle.std.proofs.Common.{sym, refl, ap, ◌∙◌, arith}
+-- Nothing there outside the range or where no level stands, and else the cell of what the level leaves stored.
+use Rattle.std.proofs.Common.{◌≡◌, ℕ, None, Some, refl, sym, ap, ap₂, ◌∙◌, arith}
+use Rattle.std.proofs.lemmas.Result.{err_from_is_err_and}
+use Rattle.board.specs.declared.faults.BoardFault.TheVariants.{NothingThere}
 use Rattle.grid.specs.declared.cells.Cell.{Cell}
-use Rattle.grid.specs.Ranks.{book_over, less}
-use Rattle.grid.proofs.Answered.{off, spot, take_off, take_none, take_stored}
+use Rattle.grid.specs.Ranks.{no_order, seen}
+use Rattle.grid.specs.Holding.{grid_book}
+use Rattle.grid.proofs.Levels.{lowered_is}
+use Rattle.grid.proofs.Answered.{Spot, take_off, take_refused, take_stored}
 use Rattle.grid.proofs.calls.GridBoard.take.Goals as goal
 
-pub returns-in_default : goal.returns-in_default
-returns-in_default c =
-    let g = c.args.self.now in
-    let d = take_off (off c.args.side g.start c.args.price g.buys.cells g.sells.cells g.buys.size g.sells.size c.in_default.ensures) in
-    record { answer = d.answer; after = d.after; lent = refl }
+pub returns-in_err-rank : goal.returns-in_err-rank
+returns-in_err-rank c =
+    let e : c.rank.result ≡ None = grind arith in
+    let f : c.in_err-rank.field-0.0 ≡ NothingThere = grind arith in
+    let p = err_from_is_err_and c.from_residual.result c.from_residual.ensures.1 in
+    let d = take_off c.args.side c.args.self.now c.args.price (rw e at c.rank.ensures) in
+    record { answer = cc (d.answer); after = d.after; lent = refl }
 
-pub returns-then-cell-eq0 : goal.returns-then-cell-eq0
-returns-then-cell-eq0 c =
-    let g = c.args.self.now in
-    let o = spot c.args.side g.start c.args.price c.in-Some.rank g.buys.cells g.sells.cells g.buys.size g.sells.size c.in-Some.ensures in
-    let d = take_none o (sym (ap (λ (x : Cell). x.orders) c.get-cell.ensures) ∙ c.if-cell-eq0.true) in
-    record { answer = d.answer; after = d.after; lent = refl }
+pub returns-in_err-level : goal.returns-in_err-level
+returns-in_err-level c =
+    let e : c.rank.result ≡ Some c.in_ok-rank.rank = grind arith in
+    let o : Spot c.args.side c.args.self.now c.args.price c.in_ok-rank.rank = record { low = omega arith; here = rw e at c.rank.ensures } in
+    let n : c.level.result ≡ None = grind arith in
+    let f : c.in_err-level.field-0.0 ≡ NothingThere = grind arith in
+    let p = err_from_is_err_and c.from_residual-in_err-level.result c.from_residual-in_err-level.ensures.1 in
+    let d = take_refused o (sym (c.level.ensures ∙ ap (seen c.args.price) c.get-cell.ensures) ∙ n) in
+    record { answer = cc (d.answer); after = d.after; lent = refl }
 
 pub returns : goal.returns
 returns c =
-    let g = c.args.self.now in
-    let l = c.put.new.self in
-    let o = spot c.args.side g.start c.args.price c.in-Some.rank g.buys.cells g.sells.cells g.buys.size g.sells.size c.in-Some.ensures in
-    let n = ap (λ (x : Cell). x.orders) c.get-cell.ensures in
-    let z = c.if-cell-eq0.false in
-    let d = take_stored c.one_less.result (book_over l.start l.buys.cells l.sells.cells) o (omega arith) (c.one_less.ensures ∙ ap less c.get-cell.ensures) c.put.ensures in
+    let F : ℕ → ℕ → Cell = λ n t. record { orders = n; since = t } in
+    let e : c.rank.result ≡ Some c.in_ok-rank.rank = grind arith in
+    let o : Spot c.args.side c.args.self.now c.args.price c.in_ok-rank.rank = record { low = omega arith; here = rw e at c.rank.ensures } in
+    let l : c.level.result ≡ Some c.in_ok-level.level = grind arith in
+    let z : c.default.result ≡ no_order = ap₂ F c.default.ensures.0 c.default.ensures.1 in
+    let k = lowered_is c.in_ok-level.level c.map_or-left.result c.default.result z (rw c.one_less.ensures.answer at c.map_or-left.ensures) in
+    let d = take_stored c.in_ok-level.level c.map_or-left.result (grid_book c.put.new.self) o (sym (c.level.ensures ∙ ap (seen c.args.price) c.get-cell.ensures) ∙ l) k c.put.ensures in
     record { answer = d.answer; after = d.after; lent = refl }

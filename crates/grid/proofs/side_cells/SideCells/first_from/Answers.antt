@@ -1,15 +1,8 @@
 -- The rest of the word of the first rank, and then the words past it.
-use Rattle.std.proofs.Common.{sym, arith}
+use Rattle.std.proofs.Common.{arith}
 use Rattle.std.proofs.lemmas.Bool.Decides.{nat_tests}
-use Rattle.std.proofs.lemmas.List.{at_drop_all}
-use Rattle.grid.specs.Ranks.{first_of}
 use Rattle.grid.proofs.Words.{rest_marks, first_rest}
 use Rattle.grid.proofs.side_cells.SideCells.first_from.Goals as goal
-
-pub returns-then-from-ge256 : goal.returns-then-from-ge256
-returns-then-from-ge256 c =
-    let h = c.args.self.now in
-    sym (at_drop_all (first_of c.args.from) h.cells c.args.from (omega arith))
 
 pub returns-then-rest-ne0 : goal.returns-then-rest-ne0
 returns-then-rest-ne0 c =

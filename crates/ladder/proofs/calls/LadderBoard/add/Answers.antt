@@ -1,24 +1,15 @@
 -- The side that was asked changes, and the other stays.
-use Rattle.std.proofs.Common.{length, ap, ◌∙◌}
-use Rattle.entry.specs.declared.Side.TheVariants.{Buy, Sell}
-use Rattle.shelf.specs.Standing.{live, held}
-use Rattle.ladder.specs.Records.{buys_in, sells_in, all_proper}
+use Rattle.std.proofs.Common.{ap, ◌∙◌}
+use Rattle.ladder.specs.Standing.{side_room}
 use Rattle.ladder.specs.Counts.{counts_fit}
-use Rattle.ladder.proofs.Soundness.{add_proper}
 use Rattle.ladder.proofs.calls.LadderBoard.add.Goals as goal
 
 pub invariant_of-self : goal.invariant_of-self
 invariant_of-self c =
     let l = c.args.self.now in
-    let d = c.add_on.ensures in
-    let p = ap all_proper d.levels ∙ add_proper Buy (length (held l.buys)) c.args.price c.args.time (buys_in (live l.buys)) l.buys_proper in
-    let n = ap (λ m. counts_fit m (length (held l.sells))) d.most ∙ l.counts in
-    record { buys_stand = d.stands; sells_stand = l.sells_stand; buys_proper = p; sells_proper = l.sells_proper; counts = n }
+    record { counts = ap (λ m. counts_fit m (side_room l.sells)) c.add.ensures.most ∙ l.counts }
 
 pub invariant_of-self-in-Sell : goal.invariant_of-self-in-Sell
 invariant_of-self-in-Sell c =
     let l = c.args.self.now in
-    let d = c.add_on-in-Sell.ensures in
-    let p = ap all_proper d.levels ∙ add_proper Sell (length (held l.sells)) c.args.price c.args.time (sells_in (live l.sells)) l.sells_proper in
-    let n = ap (counts_fit (length (held l.buys))) d.most ∙ l.counts in
-    record { buys_stand = l.buys_stand; sells_stand = d.stands; buys_proper = l.buys_proper; sells_proper = p; counts = n }
+    record { counts = ap (counts_fit (side_room l.buys)) c.add-in-Sell.ensures.most ∙ l.counts }

@@ -1,0 +1,19 @@
+// A window of an announced plan, as it is asked for.
+
+/// Whether a window bounds the dynamic limits.
+#[derive(Clone, Copy, PartialEq, Eq, Debug)]
+pub enum Bounding {
+    Free,
+    Bounded,
+}
+
+/// A window as it is announced: start, end, the code of its session, and whether it is free or bounded with K. The figures are
+/// raw, and are judged by the plan. K is judged in a free window too.
+#[derive(Clone, Copy, PartialEq, Eq, Debug)]
+pub struct Announcement {
+    pub start: u32,
+    pub end: u32,
+    pub session: u8,
+    pub bounding: Bounding,
+    pub k: u32,
+}
