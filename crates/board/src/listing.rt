@@ -9,6 +9,7 @@ use entry::Side;
 
 /// Writes the levels of a side, best first, as far as there is room for them, and tells how many were written.
 /// What stands past them is kept.
+// Into memory handed over and no `Vec`, since no heap is used while entries run.
 pub fn list_levels<B: Board>(board: &B, side: Side, out: &mut [Level]) -> usize
     ensures answer { result ≡ min (length (levels_of (B.Board.book board.now) side)) (length out.old) }
     ensures after { out.new ≡ listed result (levels_of (B.Board.book board.now) side) out.old }

@@ -106,15 +106,11 @@ pub fn encode_script<'a>(heap: Global, script: &'a str) -> Result<Encoded, Scrip
     let mut feed = Vec::new(heap);
     let mut records = 0;
     for (index, line) in Lines::new(script).enumerate() {
-        match append_line(&mut feed, line) {
-            Ok(added) => records += usize::from(added),
-            Err(flaw) => {
-                return Err(ScriptFault {
-                    line: index + 1,
-                    flaw,
-                });
-            }
-        }
+        let added = append_line(&mut feed, line).map_err(|flaw| ScriptFault {
+            line: index + 1,
+            flaw,
+        })?;
+        records += usize::from(added);
     }
     Ok(Encoded { feed, records })
 }

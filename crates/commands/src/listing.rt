@@ -8,7 +8,8 @@ use feed::whole::{Readings, read};
 use script::print::Plain;
 use std::alloc::{AllocError, Global};
 
-/// The lines of a feed, and whether it was read to its end. A listing that ends at a fault has lines too, so it is no error.
+/// The lines of a feed, and whether it was read to its end.
+// No `Result`, since a listing that ends at a fault has lines too; no `Option` of the fault, since the text tells it already.
 #[derive(Drop, PartialEq, Eq, Debug)]
 pub struct Listing {
     pub text: String,

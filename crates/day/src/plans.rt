@@ -8,6 +8,7 @@ use plan::{Announcement, Plan, Slot, Window};
 use script::command::PlanCommand;
 use std::alloc::{AllocError, Global};
 
+// One match tells the three apart; an `Option` of the other two would be matched twice.
 /// The plan that a script has: none yet, a fixed one, or the windows announced so far.
 #[derive(Drop)]
 pub(crate) enum Timetable {

@@ -16,7 +16,7 @@ use std::alloc::{AllocError, Global};
 
 // A script that is being carried out: the lines that are left, the number of the last one taken, what was printed, and the plan.
 #[derive(Drop)]
-struct Desk<'a> {
+struct ScriptRun<'a> {
     heap: Global,
     lines: Lines<'a>,
     line: usize,
@@ -24,8 +24,9 @@ struct Desk<'a> {
     timetable: Timetable,
 }
 
-impl<'a> Desk<'a> {
-    // The command of the next line that has one; none at the script's end.
+impl<'a> ScriptRun<'a> {
+    // The command of the next line that has one; none at the script's end. That fewer lines are left, here and below, is what lets the
+    // loops end.
     fn command(&mut self) -> Result<Option<Command<'a>>, Halt>
         ensures fewer { IfOk result (λ found. OnSome found (length (to_come self.new.lines) < length (to_come self.old.lines))) }
     {
@@ -42,7 +43,7 @@ impl<'a> Desk<'a> {
     }
 
     // Carries out lines until one asks for another board. Commands for a board are answered by the function that is passed.
-    fn stretch<F: FnMut(BoardCommand) -> Result<Answer, Halt>>(
+    fn until_board<F: FnMut(BoardCommand) -> Result<Answer, Halt>>(
         &mut self,
         mut on_board: F,
     ) -> Result<Option<NewBoard>, Halt>
@@ -71,7 +72,7 @@ impl<'a> Desk<'a> {
     fn without_board(&mut self) -> Result<Option<NewBoard>, Halt>
         ensures fewer { IfOk result (λ next. OnSome next (length (to_come self.new.lines) < length (to_come self.old.lines))) }
     {
-        self.stretch(|_| Err(OutOfPlace::NoBoard.into()))
+        self.until_board(|_| Err(OutOfPlace::NoBoard.into()))
     }
 
     // Carries out lines on a new board.
@@ -84,11 +85,11 @@ impl<'a> Desk<'a> {
                 let mut buys = vec![in heap; BuyLevel::default(); count]?;
                 let mut sells = vec![in heap; SellLevel::default(); count]?;
                 let mut ladder = Ladder::new(buys.as_mut_slice(), sells.as_mut_slice());
-                self.stretch(|command| board_answer(heap, &mut ladder, command))
+                self.until_board(|command| board_answer(heap, &mut ladder, command))
             }
             NewBoard::Grid(GridStart { start }) => {
                 let mut grid = Grid::new(start);
-                self.stretch(|command| board_answer(heap, &mut grid, command))
+                self.until_board(|command| board_answer(heap, &mut grid, command))
             }
         }
     }
@@ -105,18 +106,18 @@ impl<'a> Desk<'a> {
 
 /// Carries out a script, and tells what it printed and what stopped it.
 pub fn run_script(heap: Global, script: &str) -> Result<Report, AllocError> {
-    let mut desk = Desk {
+    let mut script = ScriptRun {
         heap,
         lines: Lines::new(script),
         line: 0,
         text: String::new(heap),
         timetable: Timetable::Empty,
     };
-    let outcome = desk.run();
+    let outcome = script.run();
     let why = match outcome {
         Ok(()) => {
             return Ok(Report {
-                text: desk.text,
+                text: script.text,
                 stop: None,
             });
         }
@@ -125,9 +126,9 @@ pub fn run_script(heap: Global, script: &str) -> Result<Report, AllocError> {
         Err(Halt::NoMemory(why)) => return Err(why),
     };
     Ok(Report {
-        text: desk.text,
+        text: script.text,
         stop: Some(Stop {
-            line: desk.line,
+            line: script.line,
             why,
         }),
     })

@@ -90,8 +90,8 @@ impl OpenDay {
         }
     }
 
-    // The entry applied, with what the rules promise of it. The promise is drawn from the other's answer: stated there, it would be
-    // proved at each of its returns.
+    // The entry applied, with what the rules promise of it. The promise is drawn from the equalities of `apply`: stated there, it
+    // would be proved at each of its returns.
     pub(crate) fn enter<B: Board, P: Plan>(
         &mut self,
         board: &mut B,

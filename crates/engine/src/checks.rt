@@ -58,7 +58,8 @@ impl OpenDay {
         )
     }
 
-    // A buy is held to the upper dynamic limit, a sell to the lower one.
+    // A buy is held to the upper dynamic limit, a sell to the lower one. The arms test different limits, so one test would have to
+    // choose the limit by the side first.
     pub(crate) fn in_side(
         &self,
         side: Side,

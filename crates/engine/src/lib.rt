@@ -16,14 +16,14 @@ mod trades;
 
 use rules::figures::{ClosedFigures, OpenFigures};
 
-/// A closed day. It is moved on, and can be neither copied nor let go.
+/// A closed day. It is moved on, and can be neither copied nor dropped.
 pub struct ClosedDay {
     figures: ClosedFigures,
 }
 
 // Board and plan come with each call and not as one value with the day, since board and day are changed by calls of their own.
 // So the clauses name all three: a shorter word for them would take as many arguments.
-/// An open day, which takes entries. It is moved on, and can be neither copied nor let go.
+/// An open day, which takes entries. It is moved on, and can be neither copied nor dropped.
 pub struct OpenDay {
     figures: OpenFigures,
 }

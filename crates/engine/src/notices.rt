@@ -14,7 +14,7 @@ use plan::{Plan, Session};
 use rules::figures::OpenFigures;
 
 impl OpenDay {
-    // Time has gone on: a level that has become ripe gives its price to the quotation.
+    // Time has gone on: the price of a level that has become ripe becomes the quotation.
     pub(crate) fn go_on<B: Board, P: Plan>(
         &mut self,
         board: &B,

@@ -36,7 +36,7 @@ impl OpenDay {
         Ok(())
     }
 
-    // An order less, at a price in range. The quotation and the best level are read before the board lets the order go.
+    // An order less, at a price in range. The quotation and the best level are read before the board takes the order away.
     pub(crate) fn take_order<B: Board, P: Plan>(
         &mut self,
         board: &mut B,

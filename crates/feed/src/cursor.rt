@@ -39,7 +39,7 @@ impl Cursor {
         let mut at = self.at;
         let mut held = self.held + width;
         let mut rest = self.rest << width | value as u64;
-        // So many whole bytes as the bits held give: a count of bits, and no walk over a slice.
+        // So many whole bytes as the bits held give: a count of bits, and no loop over a slice.
         while held >= 8 {
             held -= 8;
             out[at] = (rest >> held) as u8;

@@ -125,7 +125,8 @@ pub fn encode(entry: Entry, out: &mut [u8]) -> Result<usize, Refusal>
     write_entry(entry, out)
 }
 
-// Writes an entry's record: its kind, and its fields in their order.
+// Writes an entry's record: its kind, and its fields in their order. It stands apart from `encode`, whose clause `back` follows from
+// these two: stated here, it would be proved at each of the seven returns.
 fn write_entry(entry: Entry, out: &mut [u8]) -> Result<usize, Refusal>
     ensures answer { result ≡ answer entry out.old }
     ensures after { out.new ≡ output entry out.old }

@@ -12,7 +12,7 @@ use entry::refusals::Refusal;
 use std::alloc::{AllocError, Global};
 
 /// What a feed gives: its entries up to the end or the first fault, and that fault.
-#[derive(Drop)]
+#[derive(Drop, PartialEq, Eq, Debug)]
 pub struct Readings {
     pub entries: Vec<Entry>,
     pub fault: Option<Refusal>,

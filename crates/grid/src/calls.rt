@@ -45,7 +45,8 @@ impl Grid {
         }
     }
 
-    // The rank of a price, best first, if the price is in the range.
+    // The rank of a price, best first, if the price is in the range. Buys are counted from the highest price down, here and in `price`
+    // and `ranks_to`: one function for that would need a definition of its own beside `price_at`.
     fn rank(&self, side: Side, price: u32) -> Option<u8>
         ensures { MatchOption result (in_range self.now.start price ≡ false) (λ i. price ≡ price_at side self.now.start i) }
     {

@@ -5,7 +5,8 @@ ghost use Rattle.grid.specs.Ranks.{no_order, cell_at, first_of, Marks, Limited};
 use crate::PRICES;
 use crate::cells::Cell;
 
-// A word of marks has a bit for each of 64 cells, the first cell at the highest bit.
+// Two arrays and no map: a board is fixed memory, and a word of marks tells the next level of 64 cells at once. It has a bit for each
+// of them, the first cell at the highest bit.
 #[derive(Drop)]
 pub struct SideCells {
     cells: [Cell; PRICES],

@@ -16,8 +16,8 @@ const TIGHT: u32 = 100;
 
 /// A bounded window as the limits read it: its session's code, its K in thousandths, the session's LP, and the days left in
 /// each direction. A code that no session has is judged like that of a session other than the main one.
-// The session stays a code, since an enum of the sessions would ask more of callers: the limits answer for any figures.
-#[derive(Clone, Copy)]
+// The limits answer for any figures, so that the session is a code: an enum of the sessions would ask more of callers.
+#[derive(Clone, Copy, PartialEq, Eq, Debug)]
 pub struct BoundedWindow {
     pub session: u8,
     pub k: u32,

@@ -13,7 +13,7 @@ const DAY: u32 = 86_400_000;
 const MOST_DAYS: u32 = 10;
 
 /// The group of a security.
-#[derive(Clone, Copy)]
+#[derive(Clone, Copy, PartialEq, Eq, Debug)]
 enum Group {
     Quoted,
     Unquoted,
@@ -115,7 +115,7 @@ fn slot_in(rows: &[Row], last: bool, clock: u32, group: Group) -> Slot
 }
 
 /// The fixed plan of a trading day: the number of its calendar days before the last one, and the security's group.
-#[derive(Clone, Copy)]
+#[derive(Clone, Copy, PartialEq, Eq, Debug)]
 pub struct FixedPlan {
     earlier: u32,
     group: Group,

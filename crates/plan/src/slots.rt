@@ -41,8 +41,8 @@ impl TryFrom<u8> for Session {
 
 /// What a plan answers at a time. The dynamic limits have no bounds in a free session, and bounds by K, in thousandths, in a
 /// bounded one.
-// A blank window needs a default with no session, and one match tells the three answers apart. An Option of a struct with an
-// optional K would be matched twice over.
+// `Option<Slot>` over the two kinds of session would stand in each window too, since a blank record has no session, and each match
+// would write `Some` around both cases: no plainer.
 #[derive(Clone, Copy, PartialEq, Eq, Debug, Default)]
 pub enum Slot {
     #[default]

@@ -34,7 +34,7 @@ fn announce(rt: &impl Abort, plan: &mut AnnouncedPlan, calls: &[Call]) {
     }
 }
 
-// Announces windows to a new plan, and then looks around each time.
+// Announces windows to a new plan, and then reads the slots around each time.
 fn replay(rt: &impl Abort, calls: &[Call], rows: &[Edge]) {
     let mut records = [Window::default(); MOST_WINDOWS];
     let mut plan = AnnouncedPlan::new(&mut records);

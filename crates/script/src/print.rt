@@ -10,7 +10,7 @@ use entry::refusals::{Place, Refusal};
 use entry::{Entry, Params, Side};
 use std::fmt;
 
-// The types that are printed so are the entries' crate's, and a Display must stand with the type or with a wrapper like this.
+// The types are the entries' crate's, where no words of scripts are known; a Display must stand with the type or with a wrapper.
 /// A value to be printed in its plain form.
 #[derive(Clone, Copy)]
 pub struct Plain<T>(pub T);

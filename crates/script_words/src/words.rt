@@ -8,6 +8,7 @@ ghost use Rattle.script_words.specs.Reading.{answered, one, figure_to, choice, n
 use entry::{Params, Side};
 use script::faults::LineFault;
 
+// An iterator of its own, as `Lines` is: the contracts say which words are left after each one, and `end` and the parser need them.
 /// What is left of a line.
 #[derive(Clone, Copy)]
 pub struct Words<'a> {
@@ -63,6 +64,7 @@ impl<'a> Words<'a> {
         Words { rest }
     }
 
+    // `figure` and `code` are a line each over this: a fault tells the greatest figure, which a generic call would need as well.
     /// Takes the next word, which has to be a figure of at most `most`.
     pub fn figure_to(&mut self, name: &'static str, most: u32) -> Result<u32, LineFault<'a>>
         ensures answer { answered result (left self.new) ≡ figure_to most (left self.old) }

@@ -1,5 +1,6 @@
 // The calls of a shelf.
-// That a call keeps the number of records and the loan stands as two clauses, since proofs above cite each by its name.
+// That a call keeps the number of records and the loan stands as two clauses, since the proofs of the crates that use a shelf cite
+// each by its name.
 ghost use Rattle.std.specs.Prelude.{◌≡◌, ◌<◌, [], length};
 ghost use Rattle.std.specs.List.{remove, slice_get};
 ghost use Rattle.shelf.specs.Order.{first_after, place, sought};

@@ -44,6 +44,7 @@ pub enum ShelfFault {
 }
 
 /// Records handed over, of which the first `len` stand, in the order of their keys.
+// A slice with a count and no `Vec`: the memory is handed over, and no heap is used while entries run.
 #[derive(Drop)]
 pub struct Shelf<'a, R: Record> {
     records: &'a mut [R],

@@ -6,7 +6,7 @@ use entry::Side;
 /// How many prices a grid has.
 pub const PRICES: u32 = 256;
 
-// A number from 0 to 2^31 - 1 that looks like chance, from the one before it.
+// A pseudorandom number from 0 to 2^31 - 1, from the one before it.
 fn next_number(number: u32) -> u32 {
     number.wrapping_mul(1_103_515_245).wrapping_add(12_345) & 0x7fff_ffff
 }

@@ -55,80 +55,70 @@ fn three() -> [Entry; 3] {
     ]
 }
 
-// Runs the three entries with a trail of two lines, and prints the answer, what the trail holds, and the day's time and quotation.
-fn short_trail(rt: &HostRuntime) -> io::Result<()> {
-    let Ok(plan) = FixedPlan::new(1, 0) else {
-        return Ok(());
-    };
-    if Grid::test(900).is_err() {
-        return Ok(());
-    }
-    let mut grid = Grid::new(900);
-    let mut trail = [EMPTY; 2];
-    match ClosedDay::newly_listed().open(&grid, 0, USUAL) {
-        Ok(mut day) => {
-            let answer = day
-                .run(&mut grid, &plan, &three(), &mut trail)
-                .map_or_else(Refusal::number, |()| 0);
-            let OpenFigures {
-                time,
-                quotation,
-                ..
-            } = day.figures();
-            let _ = day.close().into_figures();
-            println!(rt;
-                "a trail of two lines: {answer}, line 2 {} {}, time {time}, quotation {quotation}",
-                trail[1].answer, trail[1].quotation
-            )
-        }
-        Err((closed, _)) => {
-            let _ = closed.into_figures();
-            Ok(())
-        }
-    }
-}
+/// What a run on a first day came to: its answer, and what the day then held.
+type Outcome = (Result<(), Refusal>, OpenFigures);
 
 // Runs the entries on the first day of a security, opened at 0 on the board, with one calendar day of a quoted security.
-fn first_day<B: Board>(board: &mut B, entries: &[Entry], trail: &mut [TrailLine]) {
-    let Ok(plan) = FixedPlan::new(1, 0) else {
-        return;
-    };
+fn first_day<B: Board>(
+    board: &mut B,
+    entries: &[Entry],
+    trail: &mut [TrailLine],
+) -> Result<Outcome, Refusal> {
+    let plan = FixedPlan::new(1, 0)?;
     match ClosedDay::newly_listed().open(board, 0, USUAL) {
         Ok(mut day) => {
-            let _ = day.run(board, &plan, entries, trail);
+            let answer = day.run(board, &plan, entries, trail);
+            let figures = day.figures();
             let _ = day.close().into_figures();
+            Ok((answer, figures))
         }
-        Err((closed, _)) => {
+        Err((closed, refusal)) => {
             let _ = closed.into_figures();
+            Err(refusal)
         }
     }
 }
 
 // The two functions differ in how a board is made, and share what is done on it.
-fn on_ladder(entries: &[Entry], trail: &mut [TrailLine]) {
+fn on_ladder(entries: &[Entry], trail: &mut [TrailLine]) -> Result<Outcome, Refusal> {
     let mut buys = [BuyLevel::default(); 16];
     let mut sells = [SellLevel::default(); 16];
-    if Ladder::test(buys.len(), sells.len()).is_err() {
-        return;
-    }
+    Ladder::test(buys.len(), sells.len())?;
     let mut ladder = Ladder::new(&mut buys, &mut sells);
-    first_day(&mut ladder, entries, trail);
+    first_day(&mut ladder, entries, trail)
 }
 
-fn on_grid(entries: &[Entry], trail: &mut [TrailLine]) {
-    if Grid::test(900).is_err() {
-        return;
-    }
+fn on_grid(entries: &[Entry], trail: &mut [TrailLine]) -> Result<Outcome, Refusal> {
+    Grid::test(900)?;
     let mut grid = Grid::new(900);
-    first_day(&mut grid, entries, trail);
+    first_day(&mut grid, entries, trail)
+}
+
+// Runs the three entries with a trail of two lines, and prints the answer, what the trail holds, and the day's time and quotation.
+fn short_trail(rt: &HostRuntime) -> io::Result<()> {
+    let mut trail = [EMPTY; 2];
+    match on_grid(&three(), &mut trail) {
+        Ok((answer, day)) => println!(rt;
+            "a trail of two lines: {}, line 2 {} {}, time {}, quotation {}",
+            answer.map_or_else(Refusal::number, |()| 0),
+            trail[1].answer,
+            trail[1].quotation,
+            day.time,
+            day.quotation
+        ),
+        Err(refusal) => println!(rt; "no day: refused {}", refusal.number()),
+    }
 }
 
 // Prints the trail of the entries on both boards, side by side, and one line past the list, which is kept.
 fn compare(rt: &HostRuntime, name: &str, entries: &[Entry]) -> io::Result<()> {
     let mut ladder = [EMPTY; 8];
     let mut grid = [EMPTY; 8];
-    on_ladder(entries, &mut ladder);
-    on_grid(entries, &mut grid);
+    for made in [on_ladder(entries, &mut ladder), on_grid(entries, &mut grid)] {
+        if let Err(refusal) = made {
+            println!(rt; "no day: refused {}", refusal.number())?;
+        }
+    }
     println!(rt; "{name}: ladder, grid")?;
     let lines = entries.len().saturating_add(1);
     for (a, b) in ladder.iter().zip(&grid).take(lines) {

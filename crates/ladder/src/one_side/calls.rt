@@ -1,4 +1,5 @@
-// The calls of one side of a ladder, written once for both.
+// The calls of one side of a ladder, written once for both. That a call keeps the room and the loan stands as two clauses, since the
+// proofs of `Ladder` cite each by its name.
 ghost use Rattle.std.specs.Prelude.{◌≡◌, [], None};
 ghost use Rattle.board.specs.Book.{first, level_at, next_after};
 ghost use Rattle.ladder.specs.Records.{level_of};
@@ -53,6 +54,7 @@ impl<'a, const SELL: bool> OneSide<'a, SideLevel<SELL>> {
     pub fn at(&self, price: u32) -> Option<Level>
         ensures { result ≡ level_at price (side_levels self.now) }
     {
+        // With `ok()?` the check leaves both of its ends open.
         match self.shelf.find(price) {
             Ok(at) => level_in(self.shelf.get(at)),
             Err(_) => None,

@@ -9,7 +9,7 @@ pub overflow_add-records : goal.overflow_add-records
 overflow_add-records c =
     let taken : to_come c.loop-index.index-iterator.iter ≡ c.in-Some.line.now ∷ to_come c.next.new.self.iter = search rules in
     let room = number_room c.loop-index.invariant.2 c.in-Some.line.now (to_come c.next.new.self.iter) taken in
-    omega (arith, room, records_few c.loop-index.invariant.2, lines_few c.args.script.now, c.from-records.ensures, flag_small c.in-Ok.added)
+    omega (arith, room, records_few c.loop-index.invariant.2, lines_few c.args.script.now, c.from-records.ensures, flag_small c.in_ok-added.added)
 
 pub loop-index-init : goal.loop-index-init
 loop-index-init c =
@@ -23,4 +23,4 @@ pub loop-index-preserved : goal.loop-index-preserved
 loop-index-preserved c =
     let taken : to_come c.loop-index.index-iterator.iter ≡ c.in-Some.line.now ∷ to_come c.next.new.self.iter = search rules in
     let one : c.next.new.self.count ≡ c.loop-index.index-iterator.count + 1 = search rules in
-    (search rules, tt, rw one (one_more c.loop-index.invariant.2 _ _ _ _ _ taken c.in-Ok.ensures.answer (ap (λ n. c.loop-index.records + n) (c.from-records.ensures ∙ flag_is c.in-Ok.added))))
+    (search rules, tt, rw one (one_more c.loop-index.invariant.2 _ _ _ _ _ taken (search rules) (ap (λ n. c.loop-index.records + n) (c.from-records.ensures ∙ flag_is c.in_ok-added.added))))
