@@ -1,5 +1,5 @@
 -- A side's levels against its cells: what reading and writing one cell means for the list.
-use Rattle.std.proofs.Common.{◌≡◌, ℕ, zero, suc, ◌+◌, ◌<◌, ◌≤◌, true, false, eqb, ltb, leb, cond, List, [], ◌∷◌, length, drop, set, Some, None, Option, MatchOption, Ok, Result, refl, ap, ◌∙◌, inl, inr, arith}
+use Rattle.std.proofs.Common.{◌≡◌, ℕ, zero, suc, ◌+◌, ◌-◌, ◌<◌, ◌≤◌, true, false, eqb, ltb, leb, cond, List, [], ◌∷◌, length, drop, set, Some, None, Option, MatchOption, Ok, Result, refl, ap, ◌∙◌, inl, inr, arith}
 use Rattle.std.proofs.lemmas.Bool.Decides.{nat_tests}
 use Rattle.std.proofs.lemmas.Bool.{cases_Bool}
 use Rattle.entry.specs.declared.Side.{Side}
@@ -55,6 +55,13 @@ front s start t i k (c ∷ cs) m n =
     let b = better_rank s start i k (omega arith) (omega arith) in
     grind (arith, nat_tests)
 
+-- a cell with one order more, and with one less
+abbrev pub more : ℕ → Cell → Cell
+more t c = record { orders = c.orders + 1; since = cond (eqb c.orders 0) t c.since }
+
+abbrev pub less : Cell → Cell
+less c = record { orders = c.orders - 1; since = c.since }
+
 -- the level after one order more at price p
 abbrev pub raised : ℕ → ℕ → Option Level → Result Level BoardFault
 raised p t None = Ok (new_level p t)
@@ -70,31 +77,51 @@ lowered_is x c d e = elim (single x) as (λ b. MatchOption (cond b None (Some (l
   | false ↦ λ h. h
 ]
 
-pub raise_rank : (s : Side) (start t i k j : ℕ) (cs : List Cell) (x : Level) → i ≡ k + j → j < length cs → k + length cs ≤ 256 → raised (price_at s start i) t (seen (price_at s start i) (cell_at cs j)) ≡ Ok x → added s (price_at s start i) t (levels s start k cs) ≡ levels s start k (set cs j (holding x))
-raise_rank s start t i k j [] x e m n w = absurd (omega arith)
-raise_rank s start t i k zero (c ∷ cs) x e m n w =
+-- the cell of the level is the one with an order more
+pub raised_cell : (p t : ℕ) (c : Cell) (x : Level) → raised p t (seen p c) ≡ Ok x → more t c ≡ holding x
+raised_cell p t c x w = grind (arith, nat_tests)
+
+pub raise_rank : (s : Side) (start t i k j : ℕ) (cs : List Cell) → i ≡ k + j → j < length cs → k + length cs ≤ 256 → added s (price_at s start i) t (levels s start k cs) ≡ levels s start k (set cs j (more t (cell_at cs j)))
+raise_rank s start t i k j [] e m n = absurd (omega arith)
+raise_rank s start t i k zero (c ∷ cs) e m n =
     let o : i ≡ k = omega arith in
     let z = front s start t i (suc k) cs (omega arith) (omega arith) in
     let q = same_rank s start k i (omega arith) (omega arith) in
     let r : price_at s start i ≡ price_at s start k = ap (price_at s start) o in
     grind (arith, nat_tests)
-raise_rank s start t i k (suc j) (c ∷ cs) x e m n w =
-    let ih = raise_rank s start t i (suc k) j cs x (omega arith) (omega arith) (omega arith) w in
+raise_rank s start t i k (suc j) (c ∷ cs) e m n =
+    let ih = raise_rank s start t i (suc k) j cs (omega arith) (omega arith) (omega arith) in
     let q = same_rank s start k i (omega arith) (omega arith) in
     let b = better_rank s start i k (omega arith) (omega arith) in
     grind (arith, nat_tests)
 
-pub lower_rank : (s : Side) (start i k j : ℕ) (cs : List Cell) → i ≡ k + j → j < length cs → k + length cs ≤ 256 → 0 < (cell_at cs j).orders → taken (price_at s start i) (levels s start k cs) ≡ levels s start k (set cs j (lowered (level_in (price_at s start i) (cell_at cs j))))
-lower_rank s start i k j [] e m n w = absurd (omega arith)
-lower_rank s start i k zero (c ∷ cs) e m n w =
+pub raise_level : (s : Side) (start t i k j : ℕ) (cs : List Cell) (x : Level) → i ≡ k + j → j < length cs → k + length cs ≤ 256 → raised (price_at s start i) t (seen (price_at s start i) (cell_at cs j)) ≡ Ok x → added s (price_at s start i) t (levels s start k cs) ≡ levels s start k (set cs j (holding x))
+raise_level s start t i k j cs x e m n w = raise_rank s start t i k j cs e m n ∙ ap (λ (c : Cell). levels s start k (set cs j c)) (raised_cell (price_at s start i) t (cell_at cs j) x w)
+
+-- the cell c holds what an order less leaves
+pub lower_to : (s : Side) (start i k j : ℕ) (cs : List Cell) (d : Cell) → i ≡ k + j → j < length cs → k + length cs ≤ 256 → 0 < (cell_at cs j).orders → seen (price_at s start i) d ≡ less_answer (level_in (price_at s start i) (cell_at cs j)) → taken (price_at s start i) (levels s start k cs) ≡ levels s start k (set cs j d)
+lower_to s start i k j [] d e m n w v = absurd (omega arith)
+lower_to s start i k zero (c ∷ cs) d e m n w v =
     let o : i ≡ k = omega arith in
     let q = same_rank s start k i (omega arith) (omega arith) in
     let r : price_at s start i ≡ price_at s start k = ap (price_at s start) o in
     grind (arith, nat_tests)
-lower_rank s start i k (suc j) (c ∷ cs) e m n w =
-    let ih = lower_rank s start i (suc k) j cs (omega arith) (omega arith) (omega arith) w in
+lower_to s start i k (suc j) (c ∷ cs) d e m n w v =
+    let ih = lower_to s start i (suc k) j cs d (omega arith) (omega arith) (omega arith) w v in
     let q = same_rank s start k i (omega arith) (omega arith) in
     grind (arith, nat_tests)
+
+pub less_seen : (p : ℕ) (c : Cell) → 0 < c.orders → seen p (less c) ≡ less_answer (level_in p c)
+less_seen p c w = grind (arith, nat_tests)
+
+pub lowered_seen : (p : ℕ) (c : Cell) → 0 < c.orders → seen p (lowered (level_in p c)) ≡ less_answer (level_in p c)
+lowered_seen p c w = grind (arith, nat_tests)
+
+pub lower_rank : (s : Side) (start i k j : ℕ) (cs : List Cell) → i ≡ k + j → j < length cs → k + length cs ≤ 256 → 0 < (cell_at cs j).orders → taken (price_at s start i) (levels s start k cs) ≡ levels s start k (set cs j (less (cell_at cs j)))
+lower_rank s start i k j cs e m n w = lower_to s start i k j cs _ e m n w (less_seen (price_at s start i) (cell_at cs j) w)
+
+pub lower_level : (s : Side) (start i k j : ℕ) (cs : List Cell) → i ≡ k + j → j < length cs → k + length cs ≤ 256 → 0 < (cell_at cs j).orders → taken (price_at s start i) (levels s start k cs) ≡ levels s start k (set cs j (lowered (level_in (price_at s start i) (cell_at cs j))))
+lower_level s start i k j cs e m n w = lower_to s start i k j cs _ e m n w (lowered_seen (price_at s start i) (cell_at cs j) w)
 
 -- there are no more levels than cells, and fewer where a cell is empty
 pub fewer : (s : Side) (start k : ℕ) (cs : List Cell) → length (levels s start k cs) ≤ length cs
@@ -107,17 +134,17 @@ room-left s start k zero (c ∷ cs) m w = let f = fewer s start (suc k) cs in gr
 room-left s start k (suc j) (c ∷ cs) m w = let ih = room-left s start (suc k) j cs (omega arith) w in grind (arith, nat_tests)
 
 -- the first cell that stands is the best level
-pub best_rank : (s : Side) (start k i : ℕ) (cs : List Cell) → first_of k cs ≡ Some i → (j : ℕ) × (i ≡ k + j) × (first (levels s start k cs) ≡ seen (price_at s start i) (cell_at cs j))
+pub best_rank : (s : Side) (start k i : ℕ) (cs : List Cell) → first_of k cs ≡ Some i → (j : ℕ) × (i ≡ k + j) × (j < length cs) × (first (levels s start k cs) ≡ Some (level_in (price_at s start i) (cell_at cs j))) × (first (levels s start k cs) ≡ seen (price_at s start i) (cell_at cs j))
 best_rank s start k i [] e = absurd (let z : ◌≡◌ {A = ℕ} 0 1 = cc in omega arith)
 best_rank s start k i (c ∷ cs) e =
     elim (cases_Bool (eqb c.orders 0)) [
       | inl t ↦
           let e' : first_of (suc k) cs ≡ Some i = grind (arith, nat_tests) in
           let ih = best_rank s start (suc k) i cs e' in
-          (suc ih.0, omega arith, (let r = ih.2 in grind (arith, nat_tests)))
+          (suc ih.0, omega arith, omega arith, (let r = ih.3 in grind (arith, nat_tests)), (let r = ih.4 in grind (arith, nat_tests)))
       | inr f ↦
           let e' : k ≡ i = grind (arith, nat_tests) in
-          (0, omega arith, grind (arith, nat_tests))
+          (0, omega arith, omega arith, grind (arith, nat_tests), grind (arith, nat_tests))
     ]
 
 pub best_none : (s : Side) (start k : ℕ) (cs : List Cell) → first_of k cs ≡ None → first (levels s start k cs) ≡ None

@@ -1,18 +1,17 @@
 -- What holds of every grid's book.
-use Rattle.std.proofs.Common.{◌≡◌, ℕ, zero, suc, ◌+◌, ◌<◌, ◌≤◌, true, eqb, List, [], ◌∷◌, length, set, replicate, ◌∙◌, sym, ap, subst, arith}
+use Rattle.std.proofs.Common.{◌≡◌, ℕ, zero, suc, ◌+◌, ◌<◌, ◌≤◌, true, eqb, List, [], ◌∷◌, length, set, replicate, ◌∙◌, arith}
 use Rattle.std.proofs.lemmas.Bool.Decides.{nat_tests}
 use Rattle.std.proofs.lemmas.Bool.{cond_both, eqb-false, lt-ltb}
 use Rattle.entry.specs.declared.Side.{Side}
 use Rattle.entry.specs.declared.Side.TheVariants.{Buy, Sell}
-use Rattle.entry.specs.Sides.{of_side}
+use Rattle.board.specs.Book.{levels_of}
 use Rattle.board.specs.Sound.{Behind, Sorted, AllProper, Sound}
 use Rattle.grid.specs.declared.cells.Cell.{Cell}
 use Rattle.grid.specs.declared.Grid.{Grid}
 use Rattle.grid.specs.Start.{start_fits}
-use Rattle.grid.specs.Holding.{grid_book, cells_of}
-use Rattle.grid.specs.Ranks.{no_order, cell_at, price_at, levels, Limited}
+use Rattle.grid.specs.Holding.{grid_book}
+use Rattle.grid.specs.Ranks.{no_order, cell_at, price_at, levels, book_over, Limited}
 use Rattle.grid.proofs.Levels.{better_rank, fewer}
-use Rattle.grid.proofs.Answered.{side_is, size_of}
 
 -- the start and the last price
 pub start_range : (start : ℕ) → start_fits start ≡ true → (1 ≤ start) × (start ≤ 999999745)
@@ -42,18 +41,21 @@ proper_ranks s start k (c ∷ cs) n f =
     let p = price_range s start k (omega arith) in
     cond_both (eqb c.orders 0) _ _ (AllProper start (start + 255)) (λ _. ih) (λ e. (record { above = p.0; below = p.1; some = omega (arith, eqb-false c.orders 0 e); fits = f 0 }, ih))
 
-pub sound_of : (g : Grid) → Sound (grid_book g)
-sound_of g =
-    let r = start_range g.start g.within in
+pub sound_of : (start : ℕ) (bids asks : List Cell) → start_fits start ≡ true → length bids ≡ 256 → length asks ≡ 256 → Limited bids → Limited asks → Sound (book_over start bids asks)
+sound_of start bids asks a m n f g =
+    let r = start_range start a in
     record {
       lowest = r.0;
       wide = omega arith;
       highest = omega arith;
       roomy = omega arith;
-      within = λ s. let e = ap length (side_is s g) in let l = size_of s g in omega (arith, fewer s g.start 0 (cells_of s g));
-      sorted = λ s. let l = size_of s g in subst (Sorted s) (sym (side_is s g)) (sorted_ranks s g.start 0 (cells_of s g) (omega arith));
-      proper = λ s. let l = size_of s g in subst (AllProper g.start (g.start + 255)) (sym (side_is s g)) (proper_ranks s g.start 0 (cells_of s g) (omega arith) (of_side g.sides s).limited);
+      within = λ s. elim s as (λ v. length (levels_of (book_over start bids asks) v) ≤ 256) [ Buy ↦ omega (arith, fewer Buy start 0 bids) | Sell ↦ omega (arith, fewer Sell start 0 asks) ];
+      sorted = λ s. elim s as (λ v. Sorted v (levels_of (book_over start bids asks) v)) [ Buy ↦ sorted_ranks Buy start 0 bids (omega arith) | Sell ↦ sorted_ranks Sell start 0 asks (omega arith) ];
+      proper = λ s. elim s as (λ v. AllProper start (start + 255) (levels_of (book_over start bids asks) v)) [ Buy ↦ proper_ranks Buy start 0 bids (omega arith) f | Sell ↦ proper_ranks Sell start 0 asks (omega arith) g ];
     }
+
+pub grid_sound : (g : Grid) → Sound (grid_book g)
+grid_sound g = sound_of g.start g.sides.buy.cells g.sides.sell.cells g.within g.sides.buy.size g.sides.sell.size g.sides.buy.limited g.sides.sell.limited
 
 pub limited_none : (n i : ℕ) → (cell_at (replicate n no_order) i).orders ≤ 65535
 limited_none zero i = omega arith

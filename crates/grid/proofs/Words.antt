@@ -1,6 +1,7 @@
 -- A word of marks: its leading zeros find the first cell that stands, and a cell that comes to stand or falls flips one bit.
-use Rattle.std.proofs.Common.{◌≡◌, ℕ, zero, suc, ◌+◌, ◌-◌, ◌*◌, ◌/◌, ◌%◌, ◌^◌, ◌<◌, ◌≤◌, cond, not, eqb, ltb, ◌≢◌, List, [], ◌∷◌, length, get_or, take, drop, set, replicate, None, Some, Option, sym, refl, ap, ◌∙◌, subst, ap₂, inl, inr, mod-eq_of_lt, mul_assoc, add-mul, pow-suc, arith, pow_pos}
+use Rattle.std.proofs.Common.{◌≡◌, ℕ, zero, suc, ◌+◌, ◌-◌, ◌*◌, ◌/◌, ◌%◌, ◌^◌, ◌<◌, ◌≤◌, true, false, cond, not, eqb, ltb, ◌≢◌, List, [], ◌∷◌, length, get_or, take, drop, set, replicate, None, Some, Option, sym, refl, ap, ◌∙◌, subst, ap₂, inl, inr, mod-eq_of_lt, mul_assoc, add-mul, pow-suc, arith, pow_pos}
 use Rattle.std.specs.List.{position, position_or_len}
+use mathlib.Core.Bool.{beq}
 use native.Mathlib.Nat.{zero-mod, mul-add-mod_self_right}
 use lib.Bits.{bit_and, bit_xor, xor_block, xor_zero_r}
 use lib.Pow.{pow-lt}
@@ -226,3 +227,10 @@ first_below k i (c ∷ cs) e =
           let e' : k ≡ i = grind (arith, nat_tests) in
           omega arith
     ]
+
+-- a test of both cells, as bits
+pub stood_same : (c d : Cell) → not (beq (ltb 0 c.orders) (ltb 0 d.orders)) ≡ false → bit d ≡ bit c
+stood_same c d e = grind (arith, nat_tests)
+
+pub stood_other : (c d : Cell) → not (beq (ltb 0 c.orders) (ltb 0 d.orders)) ≡ true → bit c + bit d ≡ 1
+stood_other c d e = grind (arith, nat_tests)

@@ -96,7 +96,13 @@ impl Grid {
         ensures { result ≡ first (levels side self.now.start from (drop from (cells_of side self.now))) }
     {
         let rank = self.sides.of(side).first_from(from)?;
-        self.get(side, rank).level(self.price(side, rank))
+        // The rank that was found has a level, so its orders are not tested again.
+        let Cell { orders, since } = self.get(side, rank);
+        Some(Level {
+            price: self.price(side, rank),
+            orders,
+            since,
+        })
     }
 }
 

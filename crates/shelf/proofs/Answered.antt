@@ -69,6 +69,9 @@ module _ {R : Type 0} (front xs ys : List R) (m : ℕ) (l : length front ≡ m) 
   pub sorted_written : {K : Type 0} (key : R → K) (before : K → K → Bool) → ascends key before front ≡ true → ascends key before (take m ys) ≡ true
   sorted_written key before a = ap (ascends key before) live_written ∙ a
 
+  pub stands_written : {K : Type 0} (key : R → K) (before : K → K → Bool) → ascends key before front ≡ true → (m ≤ length ys) × (ascends key before (take m ys) ≡ true)
+  stands_written key before a = (fits_written, sorted_written key before a)
+
 -- a record written among the first n
 pub set_front : {R : Type 0} (xs : List R) (n i : ℕ) (x : R) → n ≤ length xs → i < n → set xs i x ≡ set (take n xs) i x ++ drop n xs
 set_front xs n i x h l =
@@ -131,7 +134,7 @@ module _ {R K : Type 0} (key : R → K) (before : K → K → Bool) where
     answered = insert_done r (take n xs) (length xs) absent (omega (arith, long))
 
     pub insert_sound : (n + 1 ≤ length ys) × (ascends key before (take (n + 1) ys) ≡ true)
-    insert_sound = (fits_written _ xs ys (n + 1) longer put, sorted_written _ xs ys (n + 1) longer put key before (ascends_placed key before transitive r (take n xs) sorted absent))
+    insert_sound = stands_written _ xs ys (n + 1) longer put key before (ascends_placed key before transitive r (take n xs) sorted absent)
 
     pub inserted : take (n + 1) ys ≡ insert_live key before r (take n xs) (length xs)
     inserted = live_written _ xs ys (n + 1) longer put ∙ done _ (placed key before r (take n xs)) (take n xs) answered
@@ -154,7 +157,7 @@ module _ {R K : Type 0} (key : R → K) (before : K → K → Bool) where
     pub replace_sound : (n ≤ length (set xs at r)) × (ascends key before (take n (set xs at r)) ≡ true)
     replace_sound =
         let same : key r ≡ key (get_or (take n xs) at r) = total (key r) (key x) late early ∙ ap key (sym (nth_is (take n xs) at x r stood)) in
-        (fits_written _ xs _ n alike over_it, sorted_written _ xs _ n alike over_it key before (ascends_set key before (take n xs) at r same ∙ sorted))
+        stands_written _ xs _ n alike over_it key before (ascends_set key before (take n xs) at r same ∙ sorted)
 
     pub replaced : take n (set xs at r) ≡ replace_live key before at r (take n xs)
     replaced = live_written _ xs _ n alike over_it ∙ done _ (set (take n xs) at r) (take n xs) (replace_done at r (take n xs) x stood early late)
@@ -169,7 +172,7 @@ module _ {R K : Type 0} (key : R → K) (before : K → K → Bool) where
     shorter = let e = length-take-le n xs fits in let i = nth_inside (take n xs) at x stood in omega (arith, length-remove (take n xs) at i)
 
     pub remove_sound : (n - 1 ≤ length ys) × (ascends key before (take (n - 1) ys) ≡ true)
-    remove_sound = (fits_written _ xs ys (n - 1) shorter written, sorted_written _ xs ys (n - 1) shorter written key before (ascends_removed key before (take n xs) at sorted))
+    remove_sound = stands_written _ xs ys (n - 1) shorter written key before (ascends_removed key before (take n xs) at sorted)
 
     pub removed : take (n - 1) ys ≡ remove (take n xs) at
     removed = live_written _ xs ys (n - 1) shorter written

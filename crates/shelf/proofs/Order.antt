@@ -1,9 +1,11 @@
 -- Records in order: the place of a key, and what stays in order.
-use Rattle.std.proofs.Common.{◌≡◌, ℕ, zero, suc, ◌<◌, ◌≤◌, Bool, true, false, cond, not, ◌&&◌, List, [], ◌∷◌, length, get_or, take, set, Some, None, Ok, Err, Result, sym, refl, ap, ◌∙◌, subst, inl, inr, arith}
+use Rattle.std.proofs.Common.{◌≡◌, ℕ, zero, suc, ◌<◌, ◌≤◌, Bool, true, false, cond, not, ◌&&◌, List, [], ◌∷◌, length, get_or, take, set, Some, None, Ok, Err, Result, sym, refl, ap, ◌∙◌, subst, inl, inr, arith, get_or-take}
 use Rattle.std.specs.List.{insert, remove, slice_get}
 use Rattle.std.specs.List.Sorted.{IsPartitionedBy, IsPartitionPoint}
 use Rattle.std.proofs.lemmas.Bool.{and_parts, and_from, cases_Bool, cond-true, cond-false}
 use Rattle.std.proofs.lemmas.Bool.Decides.{nat_tests}
+use Rattle.std.proofs.lemmas.List.{length-take-le, get_or_default}
+use Rattle.std.proofs.lemmas.Option.{slice_get_read, slice_get_past}
 use Rattle.shelf.specs.Order.{all_after, ascends, place, stands, placed, sought, first_after}
 
 clash : {X : Type 0} → (b : Bool) → b ≡ true → b ≡ false → X
@@ -39,11 +41,18 @@ module _ {R K : Type 0} (key : R → K) (before : K → K → Bool) where
       let F : Bool → Type 0 = λ v. Some r ≡ slice_get (x ∷ xs) (cond v (suc (place key before k xs)) 0) → cond v (stands key before k xs) (not (before k (key x))) ≡ not (before k (key r)) in
       elim (before (key x) k) as F [ true ↦ λ q. stands_read k xs r q | false ↦ λ q. let o : x ≡ r = cc in ap (λ z. not (before k (key z))) o ] e
 
-  pub stands_past : (k : K) (xs : List R) → None ≡ slice_get xs (place key before k xs) → stands key before k xs ≡ false
-  stands_past k [] e = refl
-  stands_past k (x ∷ xs) e =
+  pub stands_none : (k : K) (xs : List R) → None ≡ slice_get xs (place key before k xs) → stands key before k xs ≡ false
+  stands_none k [] e = refl
+  stands_none k (x ∷ xs) e =
       let F : Bool → Type 0 = λ v. None ≡ slice_get (x ∷ xs) (cond v (suc (place key before k xs)) 0) → cond v (stands key before k xs) (not (before k (key x))) ≡ false in
-      elim (before (key x) k) as F [ true ↦ λ q. stands_past k xs q | false ↦ λ q. absurd (let z : ◌≡◌ {A = ℕ} 0 1 = cc in omega arith) ] e
+      elim (before (key x) k) as F [ true ↦ λ q. stands_none k xs q | false ↦ λ q. absurd (let z : ◌≡◌ {A = ℕ} 0 1 = cc in omega arith) ] e
+
+  -- the same of the record that is read there, or of a place past the last
+  pub stands_at : (k : K) (xs : List R) (d : R) → place key before k xs < length xs → stands key before k xs ≡ not (before k (key (get_or xs (place key before k xs) d)))
+  stands_at k xs d h = let i = place key before k xs in let r = get_or xs i d in stands_read k xs r (sym (slice_get_read xs (length xs) i r refl h (get_or_default xs i d r h)))
+
+  pub stands_past : (k : K) (xs : List R) → length xs ≤ place key before k xs → stands key before k xs ≡ false
+  stands_past k xs h = stands_none k xs (sym (slice_get_past xs (place key before k xs) h))
 
   -- a key that stands has its place among the records
   pub place_inside : (k : K) (xs : List R) → stands key before k xs ≡ true → place key before k xs < length xs
@@ -101,6 +110,18 @@ module _ {R K : Type 0} (key : R → K) (before : K → K → Bool) where
   ascends_set [] i a e = refl
   ascends_set (x ∷ xs) zero a e = ap (λ z. all_after key before z xs && ascends key before xs) e
   ascends_set (x ∷ xs) (suc i) a e = ap (λ v. v && ascends key before (set xs i a)) (all_after_set (key x) xs i a e) ∙ ap (λ v. all_after key before (key x) xs && v) (ascends_set xs i a e)
+
+  -- what the test of the record at i says of the list
+  pub test_at : (k : K) (s : List R) (n i : ℕ) (d : R) (q : K) (v : Bool) → i < n → d ≡ get_or s i d → q ≡ key d → v ≡ before q k → before (key (get_or (take n s) i d)) k ≡ v
+  test_at k s n i d q v h e eq ev = ap (λ z. before (key z) k) (get_or-take n s i d h ∙ sym e) ∙ sym (ap (λ z. before z k) eq) ∙ sym ev
+
+  pub stands_test : (k : K) (s : List R) (n i : ℕ) (d : R) (q : K) (v : Bool) → n ≤ length s → i ≡ place key before k (take n s) → i < n → d ≡ get_or s i d → q ≡ key d → v ≡ before k q → stands key before k (take n s) ≡ not v
+  stands_test k s n i d q v ln ei h e eq ev =
+      let l : length (take n s) ≡ n = length-take-le n s ln in
+      stands_at k (take n s) d (omega arith)
+      ∙ ap (λ j. not (before k (key (get_or (take n s) j d)))) (sym ei)
+      ∙ ap (λ z. not (before k (key z))) (get_or-take n s i d h ∙ sym e)
+      ∙ ap (λ z. not (before k z)) (sym eq) ∙ ap not (sym ev)
 
   -- every record below the place has a key before k
   below_place : (k : K) (xs : List R) (i : ℕ) (d : R) → i < place key before k xs → before (key (get_or xs i d)) k ≡ true

@@ -2,7 +2,7 @@
 use Rattle.std.proofs.Common.{not, sym, ap, ◌∙◌}
 use Rattle.std.specs.List.{slice_get}
 use Rattle.shelf.specs.Standing.{live}
-use Rattle.shelf.proofs.Order.{stands_read, stands_past, ok_sought, err_sought}
+use Rattle.shelf.proofs.Order.{stands_read, stands_none, ok_sought, err_sought}
 use Rattle.shelf.proofs.Shelf.find.Goals as goal
 
 pub returns-in-Some : goal.returns-in-Some
@@ -23,4 +23,4 @@ pub returns-in_default-2 : goal.returns-in_default-2
 returns-in_default-2 g c =
     let xs = live c.args.self.now in
     err_sought g.R.Record.key g.R.Record.before c.args.key xs _ c.place-at.ensures
-    (stands_past g.R.Record.key g.R.Record.before c.args.key xs (sym c.in_default.is ∙ c.get.ensures ∙ ap (slice_get xs) c.place-at.ensures))
+    (stands_none g.R.Record.key g.R.Record.before c.args.key xs (sym c.in_default.is ∙ c.get.ensures ∙ ap (slice_get xs) c.place-at.ensures))

@@ -3,7 +3,7 @@ use Rattle.std.proofs.Common.{◌≡◌, ◌≤◌, ℕ, drop, sym, ap, ◌∙�
 use Rattle.board.specs.Book.{first}
 use Rattle.grid.specs.Ranks.{levels, ranks_to}
 use Rattle.grid.specs.Holding.{cells_of}
-use Rattle.grid.proofs.Answered.{next_is, next_past}
+use Rattle.grid.proofs.Answered.{grid_next, next_past}
 use Rattle.grid.proofs.calls.GridBoard.next.Goals as goal
 
 pub returns-in_err-from : goal.returns-in_err-from
@@ -22,4 +22,4 @@ returns c =
     let v = c.ok.ensures.value in
     let e = c.ranks_to.ensures in
     let o : c.in_ok-from.from ≡ ranks_to s g.start c.args.price = grind arith in
-    record { answer = c.best_from.ensures ∙ (ap (λ (k : ℕ). first (levels s g.start k (drop k (cells_of s g)))) o ∙ sym (next_is s g c.args.price)) }
+    record { answer = c.best_from.ensures ∙ (ap (λ (k : ℕ). first (levels s g.start k (drop k (cells_of s g)))) o ∙ sym (grid_next s g c.args.price)) }
