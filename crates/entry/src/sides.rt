@@ -5,6 +5,7 @@ ghost use Rattle.std.specs.Borrow.{Lends, sem};
 ghost use Rattle.entry.specs.contracts.sides.Sides.{the_row};
 
 use crate::Side;
+use std::fmt;
 
 impl Side {
     /// The other side.
@@ -29,10 +30,29 @@ impl Side {
 }
 
 /// A value for each side.
-#[derive(Clone, Copy, PartialEq, Eq, Debug, Default, Drop)]
+#[derive(Clone, Copy, PartialEq, Eq, Default, Drop)]
 pub struct Sides<T> {
     pub buy: T,
     pub sell: T,
+}
+
+/// A kind of value that each side has, and what the values of both sides are called where they are printed for a programmer.
+pub trait OfBothSides {
+    const NAME: &'static str;
+}
+
+impl<T: OfBothSides> OfBothSides for Option<T> {
+    const NAME: &'static str = T::NAME;
+}
+
+// A derived Debug would call the values of any kind `Sides`.
+impl<T: fmt::Debug + OfBothSides> fmt::Debug for Sides<T> {
+    fn fmt<W: fmt::Write>(&self, f: &mut fmt::Formatter<W>) -> fmt::Result {
+        f.debug_struct(T::NAME)
+            .field("buy", &self.buy)
+            .field("sell", &self.sell)
+            .finish()
+    }
 }
 
 impl<T> Sides<T> {

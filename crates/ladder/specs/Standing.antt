@@ -5,13 +5,13 @@ use Rattle.shelf.specs.declared.Record.{Ghosts}
 use Rattle.board.specs.declared.levels.Level.{Level}
 use Rattle.ladder.specs.Records.{levels_in}
 use Rattle.ladder.specs.declared.records.SideLevel.{SideLevel}
-use Rattle.ladder.specs.declared.one_side.HoldsLevel as holds
+use Rattle.ladder.specs.declared.records.LevelRecord as holds
 use Rattle.ladder.specs.declared.one_side.OneSide.{OneSide}
 
 -- its levels, best first
-abbrev pub side_levels : {sell : ℕ} {K : Type 0} {level : holds.Ghosts (SideLevel sell) K} {order : Ghosts (SideLevel sell) K} → OneSide (SideLevel sell) K level order → List Level
+abbrev pub side_levels : {sell : ℕ} {level : holds.Ghosts (SideLevel sell)} {order : Ghosts (SideLevel sell) ℕ} → OneSide (SideLevel sell) level order → List Level
 side_levels o = levels_in (live o.shelf)
 
 -- the greatest number of levels: as many as it was handed records
-abbrev pub side_room : {sell : ℕ} {K : Type 0} {level : holds.Ghosts (SideLevel sell) K} {order : Ghosts (SideLevel sell) K} → OneSide (SideLevel sell) K level order → ℕ
+abbrev pub side_room : {sell : ℕ} {level : holds.Ghosts (SideLevel sell)} {order : Ghosts (SideLevel sell) ℕ} → OneSide (SideLevel sell) level order → ℕ
 side_room o = length (held o.shelf)

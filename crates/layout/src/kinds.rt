@@ -2,7 +2,7 @@
 ghost use Rattle.std.specs.Prelude.{◌≡◌};
 ghost use Rattle.layout.specs.Layout.{size, widths, bits_for};
 
-use entry::kinds::Kind;
+pub use entry::kinds::Kind;
 
 /// The bits of a record, without the spare ones.
 pub fn bits(kind: Kind) -> usize

@@ -12,8 +12,8 @@ ghost use Rattle.plan.specs.declared.slots.Window.{Window};
 ghost use Rattle.plan.specs.Hours.{slot_at, in_order, Told};
 ghost use Rattle.plan.specs.Overlaps.{Overlaps};
 
-pub use entry::windows::{Announcement, Bounding};
-pub use slots::{Session, Slot, Window};
+pub use entry::windows::Announcement;
+pub use slots::{Bounding, Session, Slot, Window};
 
 /// A fixed function from a time to its slot. Asking changes nothing, and any time may be asked.
 pub trait Plan {

@@ -3,14 +3,15 @@ ghost use Rattle.std.specs.Prelude.{◌≡◌};
 ghost use Rattle.plan.specs.Sessions.{code_of, session_answer};
 
 use entry::refusals::Refusal;
+pub use entry::windows::Bounding;
 
-/// A session of a trading day, with its code.
+/// A session of a trading day.
 #[derive(Clone, Copy, PartialEq, Eq, Debug)]
 pub enum Session {
-    Morning = 1,
-    Main = 2,
-    Evening = 3,
-    Weekend = 4,
+    Morning,
+    Main,
+    Evening,
+    Weekend,
 }
 
 impl From<Session> for u8 {
@@ -18,7 +19,12 @@ impl From<Session> for u8 {
 
     /// The session's code, 1 to 4.
     fn from(session: Session) -> u8 {
-        session as u8
+        match session {
+            Session::Morning => 1,
+            Session::Main => 2,
+            Session::Evening => 3,
+            Session::Weekend => 4,
+        }
     }
 }
 

@@ -4,8 +4,9 @@ ghost use Rattle.rules.specs.Readings.{reference_of};
 ghost use Rattle.rules.specs.Effects.{figures_at, with_reference};
 
 use entry::Params;
-use entry::sides::Sides;
+use entry::sides::{OfBothSides, Sides};
 use plan::Session;
+use std::fmt;
 
 /// The level that most recently lost its last order while it was the best of its side.
 #[derive(Clone, Copy, PartialEq, Eq, Debug)]
@@ -15,6 +16,10 @@ pub struct Forerunner {
     pub since: u32,
     /// How long it stood, in milliseconds.
     pub life: u32,
+}
+
+impl OfBothSides for Forerunner {
+    const NAME: &'static str = "Forerunners";
 }
 
 /// The forerunner of each side, or none.
@@ -57,10 +62,33 @@ impl References {
 }
 
 /// A value for each direction of prices.
-#[derive(Clone, Copy, PartialEq, Eq, Debug, Default, Drop)]
+#[derive(Clone, Copy, PartialEq, Eq, Default, Drop)]
 pub struct Directions<T> {
     pub upward: T,
     pub downward: T,
+}
+
+/// A kind of value that each direction has, and what the values of both are called where they are printed for a programmer.
+pub trait OfBothDirections {
+    const NAME: &'static str;
+}
+
+impl OfBothDirections for bool {
+    const NAME: &'static str = "Marks";
+}
+
+impl OfBothDirections for u8 {
+    const NAME: &'static str = "DaysLeft";
+}
+
+// A derived Debug would call the values of any kind `Directions`.
+impl<T: fmt::Debug + OfBothDirections> fmt::Debug for Directions<T> {
+    fn fmt<W: fmt::Write>(&self, f: &mut fmt::Formatter<W>) -> fmt::Result {
+        f.debug_struct(T::NAME)
+            .field("upward", &self.upward)
+            .field("downward", &self.downward)
+            .finish()
+    }
 }
 
 /// Whether a trade of this day went far above, and far below, the reference of the main session.

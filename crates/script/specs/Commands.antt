@@ -1,8 +1,7 @@
 -- How each command is spelt, and what is printed of it.
 use Rattle.std.specs.Prelude.{List, [], ◌∷◌, Some, None, codes, Option}
 use Rattle.entry.specs.declared.Entry.{Entry}
-use Rattle.entry.specs.declared.windows.Bounding.{Bounding}
-use Rattle.entry.specs.declared.windows.Bounding.TheVariants.{Free, Bounded}
+pub use Rattle.entry.specs.Windows.{bounding_text}
 use Rattle.script.specs.declared.command.LimitKind.{LimitKind}
 use Rattle.script.specs.declared.command.LimitKind.TheVariants.{Static, Dynamic}
 use Rattle.script.specs.declared.command.PlanCommand.{PlanCommand}
@@ -17,10 +16,6 @@ use Rattle.script.specs.declared.command.Command.{Command}
 use Rattle.script.specs.declared.command.Command.TheVariants as asks
 use Rattle.script.specs.Spelling.{Bytes, Part, name, figure, code, side_text, params_parts, entry_parts}
 use Rattle.script.specs.Print.{spaced}
-
-abbrev pub bounding_text : Bounding → Bytes
-bounding_text Free = codes "free"
-bounding_text Bounded = codes "bounded"
 
 abbrev pub limit_text : LimitKind → Bytes
 limit_text Static = codes "static"

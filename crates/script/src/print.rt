@@ -87,10 +87,7 @@ impl fmt::Display for Plain<Bounding> {
     ghost output = { λ plain. Some (bounding_text plain.0) };
 
     fn fmt<W: fmt::Write>(&self, f: &mut fmt::Formatter<W>) -> fmt::Result {
-        match self.0 {
-            Bounding::Free => write!(f, "free"),
-            Bounding::Bounded => write!(f, "bounded"),
-        }
+        write!(f, "{}", self.0)
     }
 }
 
