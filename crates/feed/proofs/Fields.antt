@@ -1,7 +1,8 @@
 -- The laws of a list of fields, one step on.
-use Rattle.std.proofs.Common.{◌≡◌, ℕ, ◌+◌, ◌-◌, ◌*◌, ◌/◌, ◌%◌, ◌^◌, ◌<◌, ◌≤◌, true, ◌&&◌, ltb, leb, List, length, get_or, drop, sym, ap, ◌∙◌, subst, mod-lt, arith, pow_pos, ltb-true, lt-ltb, leb-true}
+use Rattle.std.proofs.Common.{◌≡◌, ℕ, ◌+◌, ◌-◌, ◌*◌, ◌/◌, ◌%◌, ◌^◌, ◌<◌, ◌≤◌, true, false, ◌&&◌, ltb, leb, List, length, get_or, drop, sym, ap, ◌∙◌, subst, inl, inr, mod-lt, arith, pow_pos, ltb-true, le-ltb, lt-ltb, leb-true}
 use lib.Pow.{split}
-use Rattle.std.proofs.lemmas.Bool.{and_parts}
+use native.Mathlib.Nat.{div-eq_of_lt}
+use Rattle.std.proofs.lemmas.Bool.{cases_lt, and_parts}
 use Rattle.std.proofs.lemmas.List.{drop_more, drop-drop}
 use Rattle.layout.specs.Bits.{total, fit, packed}
 use Rattle.feed.specs.Cursor.{narrow, widths_in, values_in}
@@ -38,6 +39,9 @@ drop_further xs ys i j p e =
     subst (λ (x : ℕ). drop x xs ≡ drop x ys) s (sym (drop-drop (j - i) i xs) ∙ (ap (drop (j - i)) e ∙ drop-drop (j - i) i ys))
 
 -- `value >> width == 0`
+pub wide : (v w : ℕ) → (v / 2 ^ w ≡ 0 → ⊥) → ltb v (2 ^ w) ≡ false
+wide v w h = elim (cases_lt v (2 ^ w)) [ inl p ↦ absurd (h (div-eq_of_lt p)) | inr p ↦ le-ltb v (2 ^ w) p ]
+
 pub slim : (v w : ℕ) → v / 2 ^ w ≡ 0 → ltb v (2 ^ w) ≡ true
 slim v w h =
     let e : 0 * 2 ^ w + v % 2 ^ w ≡ v = subst (λ (x : ℕ). x * 2 ^ w + v % 2 ^ w ≡ v) h (split v w) in

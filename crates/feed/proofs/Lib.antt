@@ -1,3 +1,4 @@
+pub mod Lists
 pub mod Fields
 pub mod Shifts
 pub mod Finished

@@ -1,13 +1,17 @@
 -- What holds of every ladder: proper levels stay proper, and each side is in order.
-use Rattle.std.proofs.Common.{◌≡◌, ℕ, zero, suc, ◌≤◌, Bool, true, false, cond, ◌&&◌, leb, List, [], ◌∷◌, map, length, set, Some, Ok, Err, Result, refl, ap, ◌∙◌, arith}
+use Rattle.std.proofs.Common.{◌≡◌, ℕ, zero, suc, ◌≤◌, Bool, true, false, cond, ◌&&◌, eqb, ltb, leb, List, [], ◌∷◌, map, length, set, Some, None, Ok, Err, Option, Result, sym, refl, ap, ◌∙◌, inl, inr, arith}
 use Rattle.std.proofs.lemmas.List.{length-map}
-use Rattle.std.proofs.lemmas.Bool.{and_parts, and_from, leb-true}
+use Rattle.std.proofs.lemmas.Bool.{and_parts, and_from, cases_Bool, leb-true, eqb-true}
 use Rattle.std.proofs.lemmas.Bool.Decides.{nat_tests}
 use Rattle.std.specs.List.{remove, slice_get}
+use Rattle.entry.specs.declared.Side.{Side}
 use Rattle.entry.specs.declared.Side.TheVariants.{Buy, Sell}
 use Rattle.board.specs.declared.levels.Level.{Level}
+use Rattle.board.specs.declared.faults.BoardFault.{BoardFault}
 use Rattle.board.specs.Levels.{full, single, new_level, joined, left, more_answer, less_answer}
-use Rattle.board.specs.Book.{Book, levels_of, better}
+use Rattle.board.specs.Book.{Book, levels_of, better, level_at}
+use Rattle.board.specs.Calls as calls
+use Rattle.board.specs.Calls.{added, taken, join_answer}
 use Rattle.board.specs.Sound.{Sorted, AllProper, Sound}
 use Rattle.shelf.specs.declared.ShelfFault.{ShelfFault}
 use Rattle.shelf.specs.declared.Record.{Ghosts}
@@ -19,6 +23,7 @@ use Rattle.ladder.specs.declared.records.SideLevel.{SideLevel}
 use Rattle.ladder.specs.Records.{price_in, level_of, levels_in, proper, all_proper}
 use Rattle.ladder.specs.Counts.{counts_fit}
 use Rattle.ladder.proofs.Shelved.{sorted_levels}
+use Rattle.ladder.specs.OneSide.{add_answer_on, add_levels, take_answer_on, take_levels}
 
 joined-proper : (x : Level) → proper x ≡ true → full x ≡ false → proper (joined x) ≡ true
 joined-proper x a f = grind (arith, nat_tests)
@@ -90,6 +95,75 @@ proper_removed level (x ∷ xs) zero a = (and_parts (proper (level x)) (all_prop
 proper_removed level (x ∷ xs) (suc i) a =
     let q = and_parts (proper (level x)) (all_proper (map level xs)) a in
     and_from (proper (level x)) _ q.0 (proper_removed level xs i q.1)
+
+-- a level at a price has that price, and is one of the proper ones
+at-proper : (p : ℕ) (ls : List Level) (x : Level) → all_proper ls ≡ true → level_at p ls ≡ Some x → (proper x ≡ true) × (x.price ≡ p)
+at-proper p [] x a e = absurd (let z : ◌≡◌ {A = ℕ} 0 1 = cc in omega arith)
+at-proper p (y ∷ ls) x a e =
+    let q = and_parts (proper y) (all_proper ls) a in
+    elim (cases_Bool (eqb y.price p)) [
+      | inl t ↦
+          let o : y ≡ x = grind (arith, nat_tests) in
+          (ap proper (sym o) ∙ q.0, ap (λ z. z.price) (sym o) ∙ eqb-true y.price p t)
+      | inr f ↦ at-proper p ls x q.1 (grind (arith, nat_tests))
+    ]
+
+-- the levels of any side stay proper when an order is added or taken
+added-proper : (s : Side) (p time : ℕ) (ls : List Level) → (leb 1 p && leb p 1000000000) ≡ true → all_proper ls ≡ true → ((x : Level) → level_at p ls ≡ Some x → full x ≡ false) → all_proper (added s p time ls) ≡ true
+added-proper s p time [] r a f = and_from (proper (new_level p time)) true (new_proper p time r) refl
+added-proper s p time (x ∷ ls) r a f =
+    let q = and_parts (proper x) (all_proper ls) a in
+    let n = new_proper p time r in
+    elim (cases_Bool (eqb x.price p)) [
+      | inl t ↦
+          let u : full x ≡ false = f x (grind (arith, nat_tests)) in
+          let j = joined-proper x q.0 u in
+          let w = q.1 in
+          grind (arith, nat_tests)
+      | inr t ↦
+          let ih = added-proper s p time ls r q.1 (λ y e. f y (grind (arith, nat_tests))) in
+          let b = cases_Bool (better s p x.price) in
+          let v = q.0 in
+          let w = q.1 in
+          grind (arith, nat_tests)
+    ]
+
+taken-proper : (p : ℕ) (ls : List Level) → all_proper ls ≡ true → all_proper (taken p ls) ≡ true
+taken-proper p [] a = refl
+taken-proper p (x ∷ ls) a =
+    let q = and_parts (proper x) (all_proper ls) a in
+    let ih = taken-proper p ls q.1 in
+    let l = left-proper x q.0 in
+    let t = cases_Bool (eqb x.price p) in
+    let u = cases_Bool (single x) in
+    let v = q.0 in
+    let w = q.1 in
+    grind (arith, nat_tests)
+
+-- the answer Ok to an order more: the level is not full, or the price has a place
+join_ok : (o : Option Level) (place : Bool) → join_answer o place ≡ Ok tt → (x : Level) → o ≡ Some x → full x ≡ false
+join_ok o place a x e = grind (arith, nat_tests)
+
+in-range : (p : ℕ) (x : Level) → proper x ≡ true → x.price ≡ p → (leb 1 p && leb p 1000000000) ≡ true
+in-range p x a e = grind (arith, nat_tests)
+
+range_from : (p n room : ℕ) (ls : List Level) (o : Option Level) → level_at p ls ≡ o → all_proper ls ≡ true → join_answer o (leb 1 p && (leb p 1000000000 && ltb n room)) ≡ Ok tt → (leb 1 p && leb p 1000000000) ≡ true
+range_from p n room ls (Some x) h a e = let q = at-proper p ls x a h in in-range p x q.0 q.1
+range_from p n room ls None h a e = grind (arith, nat_tests)
+
+-- an order more or less leaves proper levels
+pub add_proper : (s : Side) (room p time : ℕ) (ls : List Level) → all_proper ls ≡ true → all_proper (add_levels s room p time ls) ≡ true
+add_proper s room p time ls a =
+    let P : Result (Unit {0}) BoardFault → Type 0 = λ r. add_answer_on room p ls ≡ r → all_proper (calls.on_ok r (added s p time ls) ls) ≡ true in
+    elim (add_answer_on room p ls) as P [
+      | Ok v ↦ λ e. added-proper s p time ls (range_from p (length ls) room ls (level_at p ls) refl a e) a (join_ok (level_at p ls) _ e)
+      | Err f ↦ λ e. a
+    ] refl
+
+pub take_proper : (p : ℕ) (ls : List Level) → all_proper ls ≡ true → all_proper (take_levels p ls) ≡ true
+take_proper p ls a =
+    let P : Result (Unit {0}) BoardFault → Type 0 = λ r. all_proper (calls.on_ok r (taken p ls) ls) ≡ true in
+    elim (take_answer_on p ls) as P [ Ok v ↦ taken-proper p ls a | Err f ↦ a ]
 
 all-proper : (ls : List Level) → all_proper ls ≡ true → AllProper 1 1000000000 ls
 all-proper [] a = tt

@@ -1,6 +1,7 @@
 -- What a record that is read has, and what the reader answers.
-use Rattle.std.proofs.Common.{◌≡◌, ℕ, ◌/◌, ◌≤◌, Bool, true, false, cond, eqb, ltb, List, length, get_or, take, drop, Some, None, Ok, Err, Option, Result, sym, refl, ap, ◌∙◌, subst, arith, le-ltb, ltb-false, ne_eqb, eqb-true}
+use Rattle.std.proofs.Common.{◌≡◌, ℕ, ◌-◌, ◌/◌, ◌≤◌, Bool, true, false, cond, eqb, ltb, List, length, get_or, take, drop, Some, None, Ok, Err, Option, Result, sym, refl, ap, ◌∙◌, subst, arith, le-ltb, ltb-false, ne_eqb, eqb-true}
 use Rattle.std.proofs.lemmas.Bool.{cond-false}
+use Rattle.std.proofs.lemmas.List.{length-drop}
 use Rattle.entry.specs.declared.Entry.{Entry}
 use Rattle.entry.specs.declared.refusals.Place.{Place}
 use Rattle.entry.specs.declared.refusals.Refusal.{Refusal}
@@ -60,6 +61,10 @@ read bs place e p = read_by bs place e (kind_from (get_or bs 0 0 / 16)) refl p
 
 pub read_long : (bs : List ℕ) (place : Place) (e : Entry) → first_record bs place ≡ Ok e → size (kind_of e) ≤ length bs
 read_long bs place e p = let h = read bs place e p in subst (λ (x : Kind). size x ≤ length bs) (sym h.same) h.long
+
+pub read_within :
+    (feed bs : List ℕ) (at : ℕ) (place : Place) (e : Entry) → bs ≡ drop at feed → Ok e ≡ first_record bs place → size (kind_of e) ≤ length feed - at
+read_within feed bs at place e p q = omega (arith, read_long bs place e (sym q), ap length p, length-drop at feed)
 
 -- the reader's answer before the feed's end
 pub next_by :

@@ -1,6 +1,6 @@
 -- Numbers as bytes, and the numbers in fields of bits.
 use Rattle.std.proofs.Common.{◌≡◌, ℕ, zero, suc, ◌+◌, ◌-◌, ◌*◌, ◌/◌, ◌%◌, ◌^◌, ◌<◌, ◌≤◌, List, [], ◌∷◌, ◌++◌, length, get_or, take, drop, sym, refl, ap, ◌∙◌, subst, inl, inr, mul_assoc, add-mul, add-one, arith, pow-add, shr-shr}
-use lib.Pow.{high, low, field as field_of, mod-mod-pow}
+use lib.Pow.{high, low, field as field_of, mod-mod-pow, mod-pow-add}
 use lib.Arith.{digits_lt}
 use Rattle.std.proofs.lemmas.List.{take_more, length-append, length-take, length_push, take-append-drop, length-drop, get_or-drop, get_or-take, get_or_past}
 use Rattle.std.proofs.Math.Seq.{take-add}
@@ -72,6 +72,14 @@ spelt_between bs first last p q r =
     let small : spelt middle < 2 ^ (8 * (last - first)) =
     subst (λ (x : ℕ). spelt middle < 2 ^ x) long (spelt_lt middle (bytes_take (drop first bs) (last - first) (bytes_drop bs first p))) in
     sym (ap (λ (x : ℕ). x % 2 ^ (8 * (last - first))) e ∙ low (spelt front) (8 * (last - first)) small)
+
+-- a word of d bytes that takes one more
+pub word_more : (p d b : ℕ) → b < 256 → (p * 256 + b) % 2 ^ (8 * (d + 1)) ≡ p % 2 ^ (8 * d) * 256 + b
+word_more p d b small =
+    let e : 8 * (d + 1) ≡ 8 * d + 8 = omega arith in
+    ap (λ (x : ℕ). (p * 256 + b) % 2 ^ x) e
+    ∙ (mod-pow-add (p * 256 + b) (8 * d) 8
+    ∙ (ap (λ (x : ℕ). x % 2 ^ (8 * d) * 256 + (p * 256 + b) % 256) (high p 8 small) ∙ ap (λ (x : ℕ). p % 2 ^ (8 * d) * 256 + x) (low p 8 small)))
 
 -- bits that lie within a number's lowest ones
 pub within_low : (n a s w : ℕ) → s + w ≤ a → n % 2 ^ a / 2 ^ s % 2 ^ w ≡ n / 2 ^ s % 2 ^ w

@@ -1,5 +1,5 @@
 -- Windows in order: what the last one that starts by a time says of the slot there and of overlaps, and one more at its place.
-use Rattle.std.proofs.Common.{◌≡◌, ℕ, zero, suc, ◌-◌, ◌<◌, ◌≤◌, Bool, true, false, cond, ◌||◌, ltb, List, [], ◌∷◌, Some, None, Option, refl, ◌∙◌, arith}
+use Rattle.std.proofs.Common.{◌≡◌, ℕ, zero, suc, ◌-◌, ◌<◌, ◌≤◌, Bool, true, false, cond, ◌||◌, ltb, ◌⊎◌, List, [], ◌∷◌, Some, None, Option, refl, ◌∙◌, arith}
 use Rattle.std.proofs.lemmas.Bool.{and_parts}
 use Rattle.std.proofs.lemmas.Bool.Decides.{nat_tests}
 use Rattle.std.specs.List.{slice_get}
@@ -105,6 +105,9 @@ module _ (w : Window) (proper : w.start < w.end) where
       let p = order_parts from x xs h in
       let ih = start_free x.end xs p.2 in
       grind (arith, nat_tests)
+
+  apart : (x : Window) (xs : List Window) → overlaps_any w (x ∷ xs) ≡ false → ((x.end ≤ w.start) ⊎ (w.end ≤ x.start)) × (overlaps_any w xs ≡ false)
+  apart x xs o = grind (arith, nat_tests)
 
   pub order_placed : (from : ℕ) (ws : List Window) → in_order from ws ≡ true → overlaps_any w ws ≡ false → from ≤ w.start → in_order from (placed start_of earlier w ws) ≡ true
   order_placed from [] h o l = grind (arith, nat_tests)

@@ -1,5 +1,5 @@
 -- The windows of the fixed plan: sound by the table, and what they give at a time of a calendar day.
-use Rattle.std.proofs.Common.{◌≡◌, ℕ, zero, suc, ◌+◌, ◌*◌, ◌/◌, ◌%◌, ◌<◌, ◌≤◌, Bool, true, false, cond, ◌&&◌, eqb, ltb, leb, List, [], ◌∷◌, refl, ap, ◌∙◌, arith}
+use Rattle.std.proofs.Common.{◌≡◌, ℕ, zero, suc, ◌+◌, ◌*◌, ◌/◌, ◌%◌, ◌<◌, ◌≤◌, Bool, true, false, cond, ◌&&◌, eqb, ltb, leb, List, [], ◌∷◌, length, get_or, drop, sym, refl, ap, ◌∙◌, add-one, arith, drop-cons}
 use Rattle.std.proofs.lemmas.Bool.Decides.{nat_tests}
 use Rattle.plan.specs.declared.slots.Slot.TheVariants.{NoSession}
 use Rattle.plan.specs.declared.slots.Window.{Window}
@@ -7,7 +7,7 @@ use Rattle.plan.specs.declared.fixed.Group.{Group}
 use Rattle.plan.specs.declared.fixed.Row.{Row}
 use Rattle.plan.specs.declared.fixed.FixedPlan.{FixedPlan}
 use Rattle.plan.specs.Hours.{contains, slot_at, in_order}
-use Rattle.plan.specs.Fixed.{day, table, of_day, window_on, on_day, from_day, fixed_hours, rows_at}
+use Rattle.plan.specs.Fixed.{day, table, of_day, row_slot, window_on, on_day, from_day, fixed_hours, row_holds, rows_at}
 use Rattle.plan.proofs.Order.{order_earlier}
 
 -- the rows of the last calendar day, or of an earlier one, are in order, do not overlap and lie within a day
@@ -19,6 +19,13 @@ rows_in_order last from (r ∷ rs) = cond (of_day last r) (leb from r.start && (
 table_sound : (last : Bool) → rows_in_order last 0 table ≡ true
 table_sound true = refl
 table_sound false = refl
+
+-- what order says of the first row
+row_parts : (last : Bool) (from : ℕ) (r : Row) (rs : List Row) → of_day last r ≡ true → rows_in_order last from (r ∷ rs) ≡ true → (from ≤ r.start) × (r.start < r.end) × (rows_in_order last r.end rs ≡ true)
+row_parts last from r rs o h = grind (arith, nat_tests)
+
+row_skipped : (last : Bool) (from : ℕ) (r : Row) (rs : List Row) → of_day last r ≡ false → rows_in_order last from (r ∷ rs) ≡ true → rows_in_order last from rs ≡ true
+row_skipped last from r rs o h = grind (arith, nat_tests)
 
 within-day : (last : Bool) (from : ℕ) (rs : List Row) → rows_in_order last from rs ≡ true → from ≤ day
 within-day last from [] h = grind (arith, nat_tests)
@@ -58,6 +65,18 @@ module _ (last : Bool) (d : ℕ) (group : Group) where
       let ih = in-day rs later c h in
       let m = row_moved r c in
       grind (arith, nat_tests)
+
+-- one row after another
+rows_next : (last : Bool) (t : ℕ) (group : Group) (rs : List Row) (i : ℕ) (r : Row) → i < length rs → rows_at last t group (drop i rs) ≡ cond (row_holds last t (get_or rs i r)) (row_slot group (get_or rs i r)) (rows_at last t group (drop (i + 1) rs))
+rows_next last t group rs i r h = rw (add-one, drop-cons rs i r) (grind (arith, nat_tests))
+
+pub rows_passed : (last : Bool) (t : ℕ) (group : Group) (rs : List Row) (i : ℕ) (r : Row) → i < length rs → false ≡ row_holds last t (get_or rs i r) → rows_at last t group (drop (i + 1) rs) ≡ rows_at last t group (drop i rs)
+rows_passed last t group rs i r h e =
+    ap (λ b. cond b (row_slot group (get_or rs i r)) (rows_at last t group (drop (i + 1) rs))) e ∙ sym (rows_next last t group rs i r h)
+
+pub rows_held : (last : Bool) (t : ℕ) (group : Group) (rs : List Row) (i : ℕ) (r : Row) → i < length rs → true ≡ row_holds last t (get_or rs i r) → row_slot group (get_or rs i r) ≡ rows_at last t group (drop i rs)
+rows_held last t group rs i r h e =
+    ap (λ b. cond b (row_slot group (get_or rs i r)) (rows_at last t group (drop (i + 1) rs))) e ∙ sym (rows_next last t group rs i r h)
 
 order_days : (d n : ℕ) (group : Group) → in_order (d * day) (from_day d n group) ≡ true
 order_days d zero group = order_earlier (d * day) (d * day + 0) (from_day d zero group) (omega arith) (order-day true d group 0 table [] (table_sound true) refl)

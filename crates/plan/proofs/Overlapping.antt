@@ -1,11 +1,18 @@
 -- Two windows overlap exactly if some time lies in both: the later of their starts does.
-use Rattle.std.proofs.Common.{◌<◌, max, [], ◌∷◌, Decides, arith}
+use Rattle.std.proofs.Common.{◌≡◌, ℕ, ◌<◌, ◌≤◌, max, true, [], ◌∷◌, Decides, arith}
 use Rattle.std.proofs.lemmas.Bool.Decides.{Decides-or, nat_tests}
 use Rattle.std.proofs.lemmas.Bool.{false≢true}
 use Rattle.plan.specs.declared.slots.Window.{Window}
+use Rattle.plan.specs.Hours.{contains}
 use Rattle.plan.specs.Windows.{overlap}
 use Rattle.plan.specs.Overlaps.{Common, Overlaps}
 use Rattle.plan.proofs.Order.{order_parts, inside}
+
+holds : (w : Window) (t : ℕ) → w.start ≤ t → t < w.end → contains w t ≡ true
+holds w t p q = grind (arith, nat_tests)
+
+crossed : (a b : Window) → a.start < b.end → b.start < a.end → overlap a b ≡ true
+crossed a b p q = grind (arith, nat_tests)
 
 one : (a b : Window) → a.start < a.end → b.start < b.end → Decides (overlap a b) (Common a b)
 one a b p q = (

@@ -16,6 +16,10 @@ pub better_trans : (s : Side) (x y z : ℕ) → Better s x y → Better s y z �
 better_trans Buy x y z p q = omega arith
 better_trans Sell x y z p q = omega arith
 
+pub better_not_self : (s : Side) (x : ℕ) → Better s x x → ⊥
+better_not_self Buy x p = omega arith
+better_not_self Sell x p = omega arith
+
 pub better_differs : (s : Side) (x y : ℕ) → Better s x y → x ≡ y → ⊥
 better_differs Buy x y p e = omega arith
 better_differs Sell x y p e = omega arith

@@ -1,3 +1,4 @@
--- What is read of printed entries.
+-- What is read of names and of printed entries.
+pub mod Names
 pub mod Solid
 pub mod Printed

@@ -1,6 +1,7 @@
 -- A text cut after its leading blanks, after its first word, and before its comment.
-use Rattle.std.proofs.Common.{◌≡◌, ℕ, zero, suc, ◌<◌, ◌≤◌, Bool, true, false, not, cond, eqb, List, [], ◌∷◌, ◌++◌, length, get_or, take, drop, Some, None, Option, unwrap_or, IsUtf8, sym, refl, ap, ◌∙◌, suc-le-suc, not-suc-le-zero, add-one, arith}
+use Rattle.std.proofs.Common.{◌≡◌, ℕ, zero, suc, ◌<◌, ◌≤◌, Bool, true, false, not, cond, eqb, List, [], ◌∷◌, ◌++◌, length, get_or, take, drop, Some, None, Option, unwrap_or, IsUtf8, sym, refl, ap, ◌∙◌, subst, suc-le-suc, not-suc-le-zero, add-one, arith}
 use Rattle.std.proofs.lemmas.Grind.{common_steps}
+use Rattle.std.proofs.lemmas.List.{length-drop}
 use Rattle.std.proofs.lemmas.List.Quantifiers.{position-Some}
 use Rattle.std.proofs.lemmas.List.Sums.{fails_before_first, passes_at_first, prefix_len-le-length}
 use Rattle.std.proofs.lemmas.Str.{IsCharBoundary-start, IsCharBoundary-after_ascii}
@@ -35,8 +36,25 @@ boundary_start bs (suc n) u e =
 pub boundary_end : (bs : Bytes) → IsCharBoundary bs (position_or_len is_blank bs)
 boundary_end bs = (prefix_len-le-length not_blank bs, λ inside high. absurd (let low : get_or bs (position_or_len is_blank bs) 0 < 128 = blank_ascii _ (passes_at_first is_blank bs 0 inside) in omega arith))
 
+-- so it does behind the blanks at the front
+pub boundary_after_blanks : (bs : Bytes) → IsUtf8 bs → IsCharBoundary bs (position_or_len not_blank bs)
+boundary_after_blanks bs u = after (position_or_len not_blank bs) refl
+  where
+    after : (n : ℕ) → position_or_len not_blank bs ≡ n → IsCharBoundary bs n
+    after zero e = IsCharBoundary-start bs u
+    after (suc n) e =
+        let within : suc n ≤ length bs = subst (λ i. i ≤ length bs) e (prefix_len-le-length (λ b. not (not_blank b)) bs) in
+        rw (← add-one) (IsCharBoundary-after_ascii bs n u within (blank_ascii _ (yes_of_not _ (fails_before_first not_blank bs n 0 (omega arith)))))
+
+-- after the blanks at the front comes no blank
+pub starts_after_blanks : (bs : Bytes) (n : ℕ) → n ≡ position_or_len not_blank bs → 0 < length (drop n bs) → is_blank (get_or (drop n bs) 0 0) ≡ false
+starts_after_blanks bs n e h =
+    let inside : position_or_len not_blank bs < length bs = omega (arith, length-drop n bs) in
+    let here : get_or (drop n bs) 0 0 ≡ get_or bs (position_or_len not_blank bs) 0 = grind (arith, common_steps) in
+    ap is_blank here ∙ no_of_not _ (passes_at_first not_blank bs 0 inside)
+
 -- leading blanks hold no word
-words_after_blanks : (bs : Bytes) (n : ℕ) → ((k : ℕ) → k < n → is_blank (get_or bs k 0) ≡ true) → words_of bs ≡ words_of (drop n bs)
+pub words_after_blanks : (bs : Bytes) (n : ℕ) → ((k : ℕ) → k < n → is_blank (get_or bs k 0) ≡ true) → words_of bs ≡ words_of (drop n bs)
 words_after_blanks bs zero all = refl
 words_after_blanks [] (suc n) all = refl
 words_after_blanks (b ∷ bs) (suc n) all =
@@ -52,7 +70,7 @@ longer : (b : ℕ) (bs : Bytes) → is_blank b ≡ false → position_or_len is_
 longer b bs e = grind (arith, add-one)
 
 -- a byte that is not blank and what stands before the next blank are the first word
-words_first : (b : ℕ) (bs : Bytes) → is_blank b ≡ false → words_of (b ∷ bs) ≡ (b ∷ take (position_or_len is_blank bs) bs) ∷ words_of (drop (position_or_len is_blank bs) bs)
+pub words_first : (b : ℕ) (bs : Bytes) → is_blank b ≡ false → words_of (b ∷ bs) ≡ (b ∷ take (position_or_len is_blank bs) bs) ∷ words_of (drop (position_or_len is_blank bs) bs)
 words_first b [] e = grind arith
 words_first b (x ∷ xs) e = by_kind (is_blank x) refl (words_first x xs)
   where
@@ -61,7 +79,8 @@ words_first b (x ∷ xs) e = by_kind (is_blank x) refl (words_first x xs)
     by_kind false h rest =
         onto_word b (is_blank b) (is_blank x) e h (rest h) ∙ sym (ap (λ n. (b ∷ take n (x ∷ xs)) ∷ words_of (drop n (x ∷ xs))) (longer x xs h))
 
-at_start : (bs : Bytes) → 0 < length bs → is_blank (get_or bs 0 0) ≡ false → words_of bs ≡ take (position_or_len is_blank bs) bs ∷ words_of (drop (position_or_len is_blank bs) bs)
+-- what stands before the next blank in a text that starts with none is the first word
+pub at_start : (bs : Bytes) → 0 < length bs → is_blank (get_or bs 0 0) ≡ false → words_of bs ≡ take (position_or_len is_blank bs) bs ∷ words_of (drop (position_or_len is_blank bs) bs)
 at_start [] some e = absurd (not-suc-le-zero some)
 at_start (b ∷ bs) some e = words_first b bs e ∙ sym (ap (λ n. take n (b ∷ bs) ∷ words_of (drop n (b ∷ bs))) (longer b bs e))
 

@@ -1,5 +1,5 @@
 -- What `parse` reads of a word without a sign is its number.
-use Rattle.std.proofs.Common.{◌≡◌, ℕ, ◌^◌, ◌<◌, true, length, get_or, Some, None, Ok, Err, Result, sym, ap, ◌∙◌, arith}
+use Rattle.std.proofs.Common.{◌≡◌, ℕ, ◌^◌, ◌<◌, Bool, true, ◌&&◌, ltb, length, get_or, Some, None, Ok, Err, Result, sym, ap, ◌∙◌, arith}
 use Rattle.std.specs.Result.{OkIff, result_ok}
 use Rattle.std.specs.Str.Parse.{digits_value, ParsesUnsigned}
 use Rattle.std.specs.Str.{all_ascii_digits}
@@ -13,6 +13,12 @@ own = numerals_by_value _ tells_all_ascii_digits
 
 abbrev Numeric : Bytes → Type 0
 Numeric w = (all_ascii_digits w ≡ true) × (0 < length w) × (digits_value 10 w < 2 ^ 32)
+
+all_three : (a : Bool) (m n : ℕ) → a ≡ true → 0 < m → n < 2 ^ 32 → (a && (ltb 0 m && ltb n (2 ^ 32))) ≡ true
+all_three a m n e h k = grind (arith, nat_tests)
+
+each_of_three : (a : Bool) (m n : ℕ) → (a && (ltb 0 m && ltb n (2 ^ 32))) ≡ true → (a ≡ true) × (0 < m) × (n < 2 ^ 32)
+each_of_three a m n e = (grind (arith, nat_tests), grind (arith, nat_tests), grind (arith, nat_tests))
 
 pub number_of : (w : Bytes) → Numeric w → number w ≡ Some (digits_value 10 w)
 number_of w h = grind (arith, nat_tests)
